@@ -1,0 +1,5 @@
+pub mod Pick
+pub mod Tests
+pub mod Bytes
+pub mod Cases
+pub mod Table

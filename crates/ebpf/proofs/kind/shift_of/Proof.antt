@@ -1,0 +1,21 @@
+use Rattle.ebpf.specs.Kinds.{shifts}
+use Rattle.base.specs.Cases.{rest}
+use Rattle.ebpf.proofs.kind.shift_of.Statement.{statement}
+use Rattle.ebpf.proofs.kind.shift_of.Tie as tie
+use Rattle.ebpf.proofs.kind.shift_of.Reads as reads
+use Rattle.ebpf.proofs.kind.shift_of.Lts as lts
+
+-- src/kind.rt:138:1
+returns : tie.Need-returns
+returns c = rw (c .match .keys1)
+
+-- src/kind.rt:138:1
+returns-2 : tie.Need-returns-2
+returns-2 c = rw (c .match .keys2)
+
+-- src/kind.rt:138:1
+returns-3 : tie.Need-returns-3
+returns-3 c = rest shifts _ _ (c .match .rest)
+
+pub shift-of-spec : {M : Type 1} → statement M
+shift-of-spec = tie.close (tie.spec returns returns-2 returns-3)

@@ -1,0 +1,25 @@
+use Rattle.ebpf.specs.Opcode.{sizes}
+use Rattle.base.specs.Cases.{rest}
+use Rattle.ebpf.proofs.kind.size_of.Statement.{statement}
+use Rattle.ebpf.proofs.kind.size_of.Tie as tie
+use Rattle.ebpf.proofs.kind.size_of.Reads as reads
+use Rattle.ebpf.proofs.kind.size_of.Lts as lts
+
+-- src/kind.rt:96:1
+returns : tie.Need-returns
+returns c = rw (c .match .keys1)
+
+-- src/kind.rt:96:1
+returns-2 : tie.Need-returns-2
+returns-2 c = rw (c .match .keys2)
+
+-- src/kind.rt:96:1
+returns-3 : tie.Need-returns-3
+returns-3 c = rw (c .match .keys3)
+
+-- src/kind.rt:96:1
+returns-4 : tie.Need-returns-4
+returns-4 c = rest sizes _ _ (c .match .rest)
+
+pub size-of-spec : {M : Type 1} → statement M
+size-of-spec = tie.close (tie.spec returns returns-2 returns-3 returns-4)

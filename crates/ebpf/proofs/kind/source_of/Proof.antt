@@ -1,0 +1,17 @@
+use Rattle.ebpf.specs.Opcode.{sources}
+use Rattle.base.specs.Cases.{rest}
+use Rattle.ebpf.proofs.kind.source_of.Statement.{statement}
+use Rattle.ebpf.proofs.kind.source_of.Tie as tie
+use Rattle.ebpf.proofs.kind.source_of.Reads as reads
+use Rattle.ebpf.proofs.kind.source_of.Lts as lts
+
+-- src/kind.rt:117:1
+returns : tie.Need-returns
+returns c = rw (c .match .keys1)
+
+-- src/kind.rt:117:1
+returns-2 : tie.Need-returns-2
+returns-2 c = rest sources _ _ (c .match .rest)
+
+pub source-of-spec : {M : Type 1} → statement M
+source-of-spec = tie.close (tie.spec returns returns-2)

@@ -1,0 +1,3 @@
+pub mod Insn
+pub mod Opcode
+pub mod Kinds

@@ -1,0 +1,83 @@
+// A slot of the program, taken apart: `Insn` and `get_insn` of rbpf's ebpf.rs.
+ghost use mathlib.Core.Path.{_≡_};
+ghost use Prim.Native.Nat.{_+_, _≤_, _<_, _^_};
+ghost use lib.ListN.{length};
+ghost use Rattle.ebpf.specs.Insn.{readAt, extend, le2, le4};
+use base::Slot;
+
+// The fields of a slot (RFC 9669, section 3.1). `off` is extended to 32 bits; `off` and `imm` are two's complement.
+pub struct Insn {
+    pub opc: u8,
+    pub dst: u8,
+    pub src: u8,
+    pub off: u32,
+    pub imm: u32,
+}
+
+// What reading a slot finds.
+pub enum Read {
+    // Its eight bytes, taken apart.
+    Whole(Insn),
+    // Not all of its eight bytes are there.
+    Torn,
+}
+
+// The value of a byte in a wider number.
+fn wide(x: u8) -> u32
+    ensures { λ r. ⌜ (r ≡ x) × (r < 256) ⌝ }
+{
+    x as u32
+}
+
+// `LittleEndian::read_i16` and `read_i32` of the Rust, at a place of the slice; the answer is the two's complement.
+fn read_i16(s: &[u8], at: usize) -> u32
+    requires { ⌜ at + 2 ≤ length (now s) ⌝ }
+    ensures { λ r. ⌜ (r ≡ le2 (now (s .entry)) at) × (r < 2 ^ 16) ⌝ }
+{
+    let b0 = wide(s[at]);
+    let b1 = wide(s[at + 1]);
+    b0 + 256 * b1
+}
+
+fn read_i32(s: &[u8], at: usize) -> u32
+    requires { ⌜ at + 4 ≤ length (now s) ⌝ }
+    ensures { λ r. ⌜ r ≡ le4 (now (s .entry)) at ⌝ }
+{
+    let b0 = wide(s[at]);
+    let b1 = wide(s[at + 1]);
+    let b2 = wide(s[at + 2]);
+    let b3 = wide(s[at + 3]);
+    b0 + 256 * b1 + 65536 * b2 + 16777216 * b3
+}
+
+// A 16-bit two's complement number as a 32-bit one.
+fn extended(x: u32) -> u32
+    requires { ⌜ x < 2 ^ 16 ⌝ }
+    ensures { λ r. ⌜ r ≡ extend x ⌝ }
+{
+    if x < 32768 {
+        return x;
+    }
+    x + 4294901760
+}
+
+// Where the Rust panics, the answer is `Torn`.
+pub fn get_insn(prog: &[u8], slot: Slot) -> Read
+    ensures { λ r. ⌜ r ≡ readAt (now (prog .entry)) (slot .number) ⌝ }
+{
+    let number = slot.number;
+    if prog.len() / 8 <= number {
+        return Read::Torn;
+    }
+    let at = 8 * number;
+    let registers = prog[at + 1];
+    let off = read_i16(prog, at + 2);
+    let imm = read_i32(prog, at + 4);
+    Read::Whole(Insn {
+        opc: prog[at],
+        dst: registers % 16,
+        src: registers / 16,
+        off: extended(off),
+        imm: imm,
+    })
+}

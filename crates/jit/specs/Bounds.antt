@@ -1,0 +1,236 @@
+-- What an accepted program's code and tables can grow to: at most 42 bytes and one listed jump a slot.
+-- Assumes nothing.
+use mathlib.Core.Path.{_≡_, _∙_, refl, ap, sym}
+use mathlib.Core.Bool.{Bool, true, false, _&&_, _||_}
+use mathlib.Core.List.{List, [], _∷_, _++_}
+use Prim.Native.Nat.{ℕ, zero, suc, _+_, _*_, _/_, _≤_, _<_}
+use native.Mathlib.Omega.{arith}
+use lib.Dec.{leb, ltb, leb→le}
+use lib.ListN.{length, length-append}
+use borrow.Author.Tests.{ltb-false}
+use Rattle.base.specs.Pick.{pick}
+use Rattle.base.specs.Tests.{true-T}
+use Rattle.ebpf.specs.Insn.{insnAt, readAt}
+use Rattle.ebpf.specs.Opcode.{kindOf}
+use Rattle.ebpf.specs.declared.insn.Insn.{Insn}
+use Rattle.ebpf.specs.declared.insn.Read.{Read}
+use Rattle.ebpf.specs.declared.insn.Read.the-variants.{Whole, Torn}
+use Rattle.ebpf.specs.declared.kind.Kind.{Kind}
+use Rattle.ebpf.specs.declared.kind.Kind.the-variants.{LdAbs, LdInd, LdDwImm, LdReg, StImm, StReg, Alu, Shift, Neg, MulDivMod, Mov, Le, Be, Ja, Jump, Call, Exit}
+use Rattle.ebpf.specs.declared.kind.Lookup.{Lookup}
+use Rattle.ebpf.specs.declared.kind.Lookup.the-variants.{Known, Unimplemented, Unknown}
+use Rattle.jit.specs.declared.Flags.{Flags}
+use Rattle.jit.specs.declared.Refusal.{Refusal}
+use Rattle.x86.specs.Code.{size, size-append, targetsOf, targets-append, fieldsOf, codeOf, length-bytes, length-fields}
+use Rattle.jit.specs.Limits.{shortestPage, longestPage, longestProgram}
+use Rattle.jit.specs.Slots.{slotCode}
+use Rattle.jit.specs.SlotSize.{slot-most, slot-jumps}
+use Rattle.jit.specs.Frame.{prologue, epilogue, prologue-size, epilogue-size, prologue-targets, epilogue-targets}
+use Rattle.jit.specs.Translation.{Inputs, slotsOf, Block, wideKind, blockOf, Operand, lacks, has, wideValue, operandOf, Step, stop, go, taken, known, goodRegisters, stepRead, stepAt, Walk, refused, done, joined, slotsWide, within, after, rest, flat, starts, entries, Bad, nowhere, bad, firstBad, Outcome, no, yes, whole, locations, exitOf, placeOf, accepted, unlessBad, finish, walkOf, badHelpers, sizesOf, translationOf}
+
+-- A block that a slot gave: its bytes are all there, it is short, and it lists one jump at most.
+pub record Sound (program : List ℕ) (slot : ℕ) (b : Block) : Type 0 where
+  pub inside : 8 * slot + 8 * slotsWide (b .wide) ≤ length program
+  pub short : size (b .code) ≤ 42
+  pub jumps : length (targetsOf (b .code)) ≤ 1
+
+abbrev pub Fine : List ℕ → ℕ → Step → Type 0
+Fine program slot (stop r) = Unit {0}
+Fine program slot (go b) = Sound program slot b
+
+module _ (program ids addresses : List ℕ) (slot : ℕ) (first : 8 * slot + 8 ≤ length program) where
+  fine-block : (k : Kind) (i : Insn) (value : ℕ) → (wideKind k ≡ true → 8 * slot + 16 ≤ length program) → Sound program slot (blockOf k slot i value)
+  fine-block k i value h = record { inside = by (wideKind k) refl; short = slot-most k slot i value; jumps = slot-jumps k slot i value }
+    where
+      by : (w : Bool) → wideKind k ≡ w → 8 * slot + 8 * slotsWide w ≤ length program
+      by true e = omega (arith, h e)
+      by false e = omega arith
+
+  -- a kind of one slot
+  narrow : (k : Kind) (i : Insn) → wideKind k ≡ false → Fine program slot (taken k slot i (operandOf ids addresses k slot i (readAt program (slot + 1))))
+  narrow k i e = by (operandOf ids addresses k slot i (readAt program (slot + 1)))
+    where
+      never : true ≡ false → ⊥
+      never p = let z : _≡_ {A = ℕ} 0 1 = cc in omega arith
+
+      by : (o : Operand) → Fine program slot (taken k slot i o)
+      by (lacks r) = tt
+      by (has value) = fine-block k i value (λ t. absurd (never (sym t ∙ e)))
+
+  fine-wide : (i : Insn) (t : Bool) → ltb (length program) (8 * (slot + 1) + 8) ≡ t → (j : Insn) → Fine program slot (taken LdDwImm slot i (wideValue slot i (pick t Torn (Whole j))))
+  fine-wide i true e j = tt
+  fine-wide i false e j = fine-block LdDwImm i _ (λ _. omega (arith, ltb-false (length program) (8 * (slot + 1) + 8) e))
+
+  fine-kind : (k : Kind) (i : Insn) → Fine program slot (taken k slot i (operandOf ids addresses k slot i (readAt program (slot + 1))))
+  unfolding readAt
+  fine-kind (LdAbs z) i = narrow (LdAbs z) i refl
+  fine-kind (LdInd z) i = narrow (LdInd z) i refl
+  fine-kind LdDwImm i = fine-wide i (ltb (length program) (8 * (slot + 1) + 8)) refl (insnAt program (slot + 1))
+  fine-kind (LdReg z) i = narrow (LdReg z) i refl
+  fine-kind (StImm z) i = narrow (StImm z) i refl
+  fine-kind (StReg z) i = narrow (StReg z) i refl
+  fine-kind (Alu o w s) i = narrow (Alu o w s) i refl
+  fine-kind (Shift o w s) i = narrow (Shift o w s) i refl
+  fine-kind (Neg w) i = narrow (Neg w) i refl
+  fine-kind (MulDivMod o w s) i = narrow (MulDivMod o w s) i refl
+  fine-kind (Mov w s) i = narrow (Mov w s) i refl
+  fine-kind Le i = narrow Le i refl
+  fine-kind Be i = narrow Be i refl
+  fine-kind Ja i = narrow Ja i refl
+  fine-kind (Jump c w s) i = narrow (Jump c w s) i refl
+  fine-kind Call i = narrow Call i refl
+  fine-kind Exit i = narrow Exit i refl
+
+  fine-known : (l : Lookup) (i : Insn) → Fine program slot (known ids addresses l slot i (readAt program (slot + 1)))
+  fine-known Unknown i = tt
+  fine-known Unimplemented i = tt
+  fine-known (Known k) i = fine-kind k i
+
+  fine-registers : (t : Bool) (l : Lookup) (i : Insn) → Fine program slot (pick t (known ids addresses l slot i (readAt program (slot + 1))) (stop (Refusal.BadRegister (record { number = slot }))))
+  fine-registers true l i = fine-known l i
+  fine-registers false l i = tt
+
+pub step-fine : (program ids addresses : List ℕ) (slot : ℕ) → Fine program slot (stepAt program ids addresses slot)
+unfolding stepAt readAt
+step-fine program ids addresses slot = by (ltb (length program) (8 * slot + 8)) refl
+  where
+    by : (t : Bool) → ltb (length program) (8 * slot + 8) ≡ t → Fine program slot (stepRead ids addresses slot (pick t Torn (Whole (insnAt program slot))) (readAt program (slot + 1)))
+    by true e = tt
+    by false e =
+        let i = insnAt program slot in
+        fine-registers program ids addresses slot (ltb-false (length program) (8 * slot + 8) e) (goodRegisters i) (kindOf (i .opc)) i
+
+-- All blocks from a slot on, and how many slots they are.
+abbrev pub slotsIn : List Block → ℕ
+slotsIn [] = 0
+slotsIn (b ∷ bs) = slotsWide (b .wide) + slotsIn bs
+
+abbrev pub Sounds : List ℕ → ℕ → List Block → Type 0
+Sounds program slot [] = Unit {0}
+Sounds program slot (b ∷ bs) = Sound program slot b × Sounds program (slot + slotsWide (b .wide)) bs
+
+abbrev pub Good : List ℕ → ℕ → Walk → Type 0
+Good program slot (refused r) = Unit {0}
+Good program slot (done bs) = Sounds program slot bs
+
+module _ (program ids addresses : List ℕ) (page : ℕ) where
+  good-joined : (slot : ℕ) (b : Block) (w : Walk) → Sound program slot b → Good program (slot + slotsWide (b .wide)) w → Good program slot (joined (b ∷ []) w)
+  good-joined slot b (refused r) h g = tt
+  good-joined slot b (done bs) h g = (h, g)
+
+  good-within : (t : Bool) (slot : ℕ) (b : Block) (w : Walk) → Sound program slot b → Good program (slot + slotsWide (b .wide)) w → Good program slot (within t slot b w)
+  good-within true slot b w h g = good-joined slot b w h g
+  good-within false slot b w h g = tt
+
+  good-after : (slot place : ℕ) (s : Step) (k : ℕ → ℕ → Walk) → Fine program slot s → ((t p : ℕ) → Good program t (k t p)) → Good program slot (after page slot place s k)
+  good-after slot place (stop r) k h g = tt
+  good-after slot place (go b) k h g = good-within (leb (place + size (b .code)) page) slot b (k (slot + slotsWide (b .wide)) (place + size (b .code))) h (g (slot + slotsWide (b .wide)) (place + size (b .code)))
+
+  pub rest-good : (fuel slot place : ℕ) → Good program slot (rest fuel program ids addresses page slot place)
+  unfolding rest
+  rest-good zero slot place = tt
+  rest-good (suc fuel) slot place = by (ltb (8 * slot) (length program)) (λ t p. rest-good fuel t p)
+    where
+      by : (t : Bool) → ((t p : ℕ) → Good program t (rest fuel program ids addresses page t p)) → Good program slot (pick t (after page slot place (stepAt program ids addresses slot) (λ s p. rest fuel program ids addresses page s p)) (done []))
+      by true ih = good-after slot place (stepAt program ids addresses slot) (λ s p. rest fuel program ids addresses page s p) (step-fine program ids addresses slot) ih
+      by false ih = tt
+
+wide-some : (w : Bool) → (1 ≤ slotsWide w) × (slotsWide w ≤ 2)
+wide-some true = omega arith
+wide-some false = omega arith
+
+module _ (program : List ℕ) where
+  pub sounds-inside : (slot : ℕ) (bs : List Block) → Sounds program slot bs → 8 * slot ≤ length program → 8 * (slot + slotsIn bs) ≤ length program
+  sounds-inside slot [] h g = omega arith
+  sounds-inside slot (b ∷ bs) h g = omega (arith, sounds-inside (slot + slotsWide (b .wide)) bs (h .1) (omega (arith, h .0 .inside)))
+
+  pub sounds-short : (slot : ℕ) (bs : List Block) → Sounds program slot bs → size (flat bs) ≤ 42 * slotsIn bs
+  sounds-short slot [] h = omega arith
+  sounds-short slot (b ∷ bs) h =
+      rw (size-append (b .code) (flat bs)) (omega (arith, h .0 .short, sounds-short (slot + slotsWide (b .wide)) bs (h .1), wide-some (b .wide)))
+
+  pub sounds-jumps : (slot : ℕ) (bs : List Block) → Sounds program slot bs → length (targetsOf (flat bs)) ≤ slotsIn bs
+  sounds-jumps slot [] h = omega arith
+  sounds-jumps slot (b ∷ bs) h =
+      rw (targets-append (b .code) (flat bs), length-append (targetsOf (b .code)) (targetsOf (flat bs)))
+      (omega (arith, h .0 .jumps, sounds-jumps (slot + slotsWide (b .wide)) bs (h .1), wide-some (b .wide)))
+
+-- The frame adds 49 and 16 bytes at most, and one jump.
+prologue-most : (f : Flags) → size (prologue f) ≤ 49
+prologue-most f = rw (prologue-size f) (by (f .use_mbuff) (f .update_data_ptr))
+  where
+    by : (a b : Bool) → pick a (pick b 49 31) 34 ≤ 49
+    by true true = omega arith
+    by true false = omega arith
+    by false b = omega arith
+
+pub whole-size : (f : Flags) (bs : List Block) → size (whole f bs) ≡ size (prologue f) + (size (flat bs) + 16)
+whole-size f bs = rw (size-append (prologue f) (flat bs ++ epilogue), size-append (flat bs) epilogue, epilogue-size)
+
+pub whole-jumps : (f : Flags) (bs : List Block) → length (targetsOf (whole f bs)) ≡ 1 + length (targetsOf (flat bs))
+whole-jumps f bs =
+    rw (targets-append (prologue f) (flat bs ++ epilogue), targets-append (flat bs) epilogue, prologue-targets f, epilogue-targets, length-append (targetsOf (flat bs)) [])
+    (omega arith)
+
+-- What is accepted: code of at most 42 · n + 65 bytes, and so of at most 86,081, which is below 94,273; one field for each target, at
+-- most n + 1 of them; and all of the code within the page.
+pub record Bounded (x : Inputs) (code fields targets : List ℕ) : Type 0 where
+  pub fits : length code ≤ x .page
+  pub slots : slotsOf (x .program) ≤ 2048
+  pub short : length code ≤ 42 * slotsOf (x .program) + 65
+  pub all : length code ≤ 86081
+  pub jumps : length fields ≤ slotsOf (x .program) + 1
+  pub pairs : length targets ≡ length fields
+
+abbrev pub Bound : Inputs → Outcome → Type 0
+Bound x (no r) = Unit {0}
+Bound x (yes code locs fields targets) = Bounded x code fields targets
+
+module _ (x : Inputs) (few : length (x .program) ≤ longestProgram) where
+  bound-blocks : (bs : List Block) → Sounds (x .program) 0 bs → size (whole (x .flags) bs) ≤ x .page → Bound x (accepted (x .flags) bs)
+  bound-blocks bs h g =
+      let f = x .flags in
+      let place = placeOf (locations f bs) (exitOf f bs) in
+      let n : slotsIn bs ≤ slotsOf (x .program) = omega (arith, sounds-inside (x .program) 0 bs h (omega arith)) in
+      let l : length (codeOf place (whole f bs)) ≡ size (whole f bs) = length-bytes place 0 (whole f bs) in
+      let s : size (whole f bs) ≤ 42 * slotsOf (x .program) + 65 =
+      omega (arith, whole-size f bs, prologue-most f, sounds-short (x .program) 0 bs h) in
+      let p : length (fieldsOf 0 (whole f bs)) ≡ length (targetsOf (whole f bs)) = length-fields 0 (whole f bs) in
+      record {
+        fits = omega (arith, l);
+        slots = omega arith;
+        short = omega (arith, l, s);
+        all = omega (arith, l, s);
+        jumps = omega (arith, p, whole-jumps f bs, sounds-jumps (x .program) 0 bs h);
+        pairs = sym p;
+      }
+
+  bound-finish : (w : Walk) → Good (x .program) 0 w → Bound x (finish (x .flags) (slotsOf (x .program)) (x .page) w)
+  bound-finish (refused r) h = tt
+  bound-finish (done bs) h = by (leb (size (whole (x .flags) bs)) (x .page)) refl (firstBad (slotsOf (x .program)) 0 bs)
+    where
+      by : (t : Bool) → leb (size (whole (x .flags) bs)) (x .page) ≡ t → (b : Bad) → Bound x (pick t (unlessBad b (accepted (x .flags) bs)) (no (Refusal.NoRoom (record { number = slotsOf (x .program) }))))
+      by true e nowhere = bound-blocks bs h (leb→le _ _ (true-T _ e))
+      by true e (bad s) = tt
+      by false e b = tt
+
+pub bounds : (x : Inputs) → Bound x (translationOf x)
+unfolding translationOf sizesOf
+bounds x =
+    by (ltb (x .page) shortestPage) (ltb longestPage (x .page)) (ltb longestProgram (length (x .program))) refl
+    (leb (x .locations) n || (leb (x .fields) n || leb (x .targets) n)) (badHelpers (x .ids) (x .addresses))
+  where
+    n : ℕ
+    n = slotsOf (x .program)
+
+    all : Outcome
+    all = finish (x .flags) (slotsOf (x .program)) (x .page) (walkOf x)
+
+    by : (a b c : Bool) → ltb longestProgram (length (x .program)) ≡ c → (d e : Bool) → Bound x (pick a (no Refusal.PageTooShort) (pick b (no Refusal.PageTooLong) (pick c (no Refusal.ProgramTooLong) (pick d (no Refusal.TableTooShort) (pick e (no Refusal.BadHelpers) all)))))
+    by true b c q d e = tt
+    by false true c q d e = tt
+    by false false true q d e = tt
+    by false false false q true e = tt
+    by false false false q false true = tt
+    by false false false q false false =
+        bound-finish x (ltb-false longestProgram (length (x .program)) q) (walkOf x) (rest-good (x .program) (x .ids) (x .addresses) (x .page) (suc n) 0 (size (prologue (x .flags))))

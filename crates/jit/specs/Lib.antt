@@ -1,0 +1,9 @@
+pub mod Limits
+pub mod Refusals
+pub mod MulDivMod
+pub mod Slots
+pub mod Frame
+pub mod Translation
+pub mod Worked
+pub mod SlotSize
+pub mod Bounds

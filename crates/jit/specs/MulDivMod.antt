@@ -1,0 +1,73 @@
+-- What a multiplication, a division or a modulo becomes: `emit_muldivmod` of the Rust. The registers are machine numbers.
+-- Assumes nothing.
+use mathlib.Core.Bool.{Bool, true, false, not}
+use mathlib.Core.List.{List, [], _∷_, _++_}
+use Prim.Native.Nat.{ℕ, suc, _+_}
+use lib.Dec.{eqb}
+use Rattle.base.specs.Pick.{pick}
+use Rattle.base.specs.declared.Width.{Width}
+use Rattle.base.specs.declared.Width.the-variants.{W32, W64}
+use Rattle.ebpf.specs.declared.kind.MulOp.{MulOp}
+use Rattle.ebpf.specs.declared.kind.MulOp.the-variants.{Mul, Div, Mod}
+use Rattle.x86.specs.Registers.{RAX, RCX, RDX}
+use Rattle.x86.specs.Instr.{Instr, op, push, pop, alu, aluImm, unary, jump, jmp, jcc, MOV, XOR, TEST, MUL, DIV, Unary, JE, JNE}
+use Rattle.x86.specs.Code.{Dest, near, to, size}
+
+abbrev pub Code : Type 0
+Code = List (Instr Dest)
+
+abbrev pub when : Bool → Code → Code
+when b c = pick b c []
+
+abbrev pub unlessIs : ℕ → ℕ → Code → Code
+unlessIs r s c = pick (eqb r s) [] c
+
+-- MUL and DIV by the immediate 0 clear dst; MOD by it does nothing
+abbrev pub byZero : MulOp → (dst : ℕ) → Code
+byZero Mul dst = op (alu XOR W32 dst dst) ∷ []
+byZero Div dst = op (alu XOR W32 dst dst) ∷ []
+byZero Mod dst = []
+
+-- Where the divisor is a register, it is tested: DIV by zero clears dst and goes to the next slot, MOD by zero goes there at once.
+-- The Rust leaves the slot's number in RCX first.
+abbrev pub divByZero : (slot dst : ℕ) → Code
+divByZero slot dst = op (alu XOR W32 dst dst) ∷ jump jmp (to (slot + 1)) ∷ []
+
+abbrev pub tested : (slot : ℕ) → Width → (src : ℕ) → Code
+tested slot w src = op (aluImm MOV W64 RCX slot) ∷ op (alu TEST w src src) ∷ []
+
+abbrev pub guard : MulOp → (slot : ℕ) → Width → (src dst : ℕ) → Code
+guard Mul slot w src dst = []
+guard Div slot w src dst = tested slot w src ++ (jump (jcc JNE) (near (size (divByZero slot dst))) ∷ divByZero slot dst)
+guard Mod slot w src dst = tested slot w src ++ (jump (jcc JE) (to (slot + 1)) ∷ [])
+
+-- RDX:RAX times or over RCX; a division's upper half is cleared
+abbrev pub operate : MulOp → Width → Code
+operate Mul w = op (unary MUL w RCX) ∷ []
+operate Div w = op (alu XOR W32 RDX RDX) ∷ op (unary DIV w RCX) ∷ []
+operate Mod w = op (alu XOR W32 RDX RDX) ∷ op (unary DIV w RCX) ∷ []
+
+-- the result, RAX or for MOD RDX, goes to dst as RAX and RDX come back
+abbrev pub fromRax : MulOp → Bool
+fromRax Mul = true
+fromRax Div = true
+fromRax Mod = false
+
+abbrev pub restore : MulOp → (dst : ℕ) → Code
+restore o dst =
+    unlessIs dst RDX (when (not (fromRax o)) (op (alu MOV W64 RDX dst) ∷ []) ++ (op (pop RDX) ∷ []))
+    ++ unlessIs dst RAX (when (fromRax o) (op (alu MOV W64 RAX dst) ∷ []) ++ (op (pop RAX) ∷ []))
+
+-- the second operand, which `operand` brings to RCX, with RAX and RDX saved unless they are dst
+abbrev pub computed : MulOp → Width → (operand : Code) → (dst : ℕ) → Code
+computed o w operand dst =
+    unlessIs dst RAX (op (push RAX) ∷ [])
+    ++ (unlessIs dst RDX (op (push RDX) ∷ [])
+    ++ (operand
+    ++ (op (alu MOV W64 dst RAX) ∷ (operate o w ++ restore o dst))))
+
+abbrev pub mulDivModImm : MulOp → Width → (dst imm : ℕ) → Code
+mulDivModImm o w dst imm = pick (eqb imm 0) (byZero o dst) (computed o w (op (aluImm MOV W64 RCX imm) ∷ []) dst)
+
+abbrev pub mulDivModReg : MulOp → (slot : ℕ) → Width → (src dst : ℕ) → Code
+mulDivModReg o slot w src dst = guard o slot w src dst ++ computed o w (op (alu MOV W64 src RCX) ∷ []) dst

@@ -1,0 +1,237 @@
+-- No slot has more than 42 bytes, and none lists more than one jump.
+-- Assumes nothing.
+use mathlib.Core.Path.{_≡_, refl}
+use mathlib.Core.Bool.{Bool, true, false, not}
+use mathlib.Core.List.{List, [], _∷_, _++_}
+use Prim.Native.Nat.{ℕ, _+_, _%_, _^_, _≤_}
+use native.Mathlib.Omega.{arith}
+use native.Mathlib.Nat.{le-trans}
+use lib.Dec.{T, eqb, leb, ltb, leb→le}
+use lib.ListN.{length, length-append}
+use Rattle.base.specs.Pick.{pick}
+use Rattle.base.specs.declared.Width.{Width}
+use Rattle.base.specs.declared.Width.the-variants.{W32, W64}
+use Rattle.ebpf.specs.declared.insn.Insn.{Insn}
+use Rattle.ebpf.specs.declared.kind.Source.the-variants.{Imm, Reg}
+use Rattle.ebpf.specs.declared.kind.MulOp.{MulOp}
+use Rattle.ebpf.specs.declared.kind.MulOp.the-variants.{Mul, Div, Mod}
+use Rattle.ebpf.specs.declared.kind.Kind.{Kind}
+use Rattle.ebpf.specs.declared.kind.Kind.the-variants.{LdAbs, LdInd, LdDwImm, LdReg, StImm, StReg, Alu, Shift, Neg, MulDivMod, Mov, Le, Be, Ja, Jump, Call, Exit}
+use Rattle.x86.specs.Registers.{RAX, RCX, RDX, RBX, R9, R10, R11, R13, R14, R15}
+use Rattle.x86.specs.Instr.{Instr, Plain, op, push, pop, alu, aluImm, unary, movabs, rol16, bswap, shiftImm, shiftCl, load, store, storeImm, jump, jmp, call, jcc, callReg, ret, MOV, ADD, XOR, TEST, MUL, DIV, AND, JE, JNE}
+use Rattle.x86.specs.Encode.{rex, len, jumpOpcode}
+use Rattle.x86.specs.Lengths.{most, rex-most, plain-most}
+use Rattle.x86.specs.Code.{Dest, to, near, size, size-append, targetsOf, targets-append}
+use Rattle.jit.specs.MulDivMod.{Code, when, unlessIs, byZero, divByZero, tested, guard, operate, fromRax, restore, computed, mulDivModImm, mulDivModReg}
+use Rattle.jit.specs.Slots.{regOf, targetOf, shiftOf, testOf, loadImm, swap, helperCall, localCall, slotCode}
+
+-- the sum of what each instruction can get, where it is a number
+abbrev bound : Code → ℕ
+bound [] = 0
+bound (op p ∷ c) = most p + bound c
+bound (jump j d ∷ c) = length (jumpOpcode j) + 4 + bound c
+bound (callReg r ∷ c) = 3 + bound c
+bound (ret ∷ c) = 1 + bound c
+
+bounded : (c : Code) → size c ≤ bound c
+bounded [] = omega arith
+bounded (op p ∷ c) = omega (arith, plain-most p, bounded c)
+bounded (jump j d ∷ c) = omega (arith, bounded c)
+bounded (callReg r ∷ c) = omega (arith, rex-most 0 0 r, bounded c)
+bounded (ret ∷ c) = omega (arith, bounded c)
+
+listing : (c : Code) → T (leb (bound c) 42) → size c ≤ 42
+listing c t = le-trans (bounded c) (leb→le (bound c) 42 t)
+
+-- bounds of the parts make bounds of the whole
+both : (a b : Code) {j k : ℕ} → size a ≤ j → size b ≤ k → size (a ++ b) ≤ j + k
+both a b h g = rw (size-append a b) (omega arith)
+
+chosen : (t : Bool) (a b : Code) {k : ℕ} → size a ≤ k → size b ≤ k → size (pick t a b) ≤ k
+chosen true a b h g = h
+chosen false a b h g = g
+
+unless : (r s : ℕ) (c : Code) {k : ℕ} → size c ≤ k → size (unlessIs r s c) ≤ k
+unless r s c h = chosen (eqb r s) [] c (omega arith) h
+
+load-most : (d v : ℕ) → len {D = Dest} (op (loadImm d v)) ≤ 10
+unfolding loadImm
+load-most d v = by (ltb ((v + 2 ^ 31) % 2 ^ 64) (2 ^ 32))
+  where
+    by : (t : Bool) → len {D = Dest} (op (pick t (aluImm MOV W64 d (v % 2 ^ 32)) (movabs d v))) ≤ 10
+    by true = omega (arith, plain-most (aluImm MOV W64 d (v % 2 ^ 32)))
+    by false = plain-most (movabs d v)
+
+operate-most : (o : MulOp) (w : Width) → size (operate o w) ≤ 5
+unfolding rex
+operate-most Mul w = omega (arith, plain-most (unary MUL w RCX))
+operate-most Div w = omega (arith, plain-most (unary DIV w RCX))
+operate-most Mod w = omega (arith, plain-most (unary DIV w RCX))
+
+restore-most : (o : MulOp) (d : ℕ) → size (restore o d) ≤ 5
+unfolding rex
+restore-most o d = by (fromRax o)
+  where
+    by : (b : Bool) → size
+        (unlessIs d RDX (when (not b) (op (alu MOV W64 RDX d) ∷ []) ++ (op (pop RDX) ∷ []))
+        ++ unlessIs d RAX (when b (op (alu MOV W64 RAX d) ∷ []) ++ (op (pop RAX) ∷ []))) ≤ 5
+    by true =
+        both (unlessIs d RDX (op (pop RDX) ∷ [])) (unlessIs d RAX (op (alu MOV W64 RAX d) ∷ op (pop RAX) ∷ [])) {j = 1} {k = 4}
+        (unless d RDX (op (pop RDX) ∷ []) (omega arith))
+        (unless d RAX (op (alu MOV W64 RAX d) ∷ op (pop RAX) ∷ []) (omega (arith, plain-most (alu MOV W64 RAX d))))
+    by false =
+        both (unlessIs d RDX (op (alu MOV W64 RDX d) ∷ op (pop RDX) ∷ [])) (unlessIs d RAX (op (pop RAX) ∷ [])) {j = 4} {k = 1}
+        (unless d RDX (op (alu MOV W64 RDX d) ∷ op (pop RDX) ∷ []) (omega (arith, plain-most (alu MOV W64 RDX d))))
+        (unless d RAX (op (pop RAX) ∷ []) (omega arith))
+
+computed-most : (o : MulOp) (w : Width) (operand : Code) (d : ℕ) {k : ℕ} → size operand ≤ k → size (computed o w operand d) ≤ k + 15
+unfolding rex
+computed-most o w operand d {k} h =
+    let tail = operate o w ++ restore o d in
+    let main = op (alu MOV W64 d RAX) ∷ tail in
+    let t : size main ≤ 13 = omega (arith, plain-most (alu MOV W64 d RAX), both (operate o w) (restore o d) (operate-most o w) (restore-most o d)) in
+    let p = unless d RAX (op (push RAX) ∷ []) {k = 1} (omega arith) in
+    let q = unless d RDX (op (push RDX) ∷ []) {k = 1} (omega arith) in
+    omega (
+      arith,
+      both (unlessIs d RAX (op (push RAX) ∷ [])) (unlessIs d RDX (op (push RDX) ∷ []) ++ (operand ++ main)) p
+          (both (unlessIs d RDX (op (push RDX) ∷ [])) (operand ++ main) q (both operand main h t)),
+    )
+
+guard-most : (o : MulOp) (slot : ℕ) (w : Width) (s d : ℕ) → size (guard o slot w s d) ≤ 24
+guard-most Mul slot w s d = omega arith
+guard-most Div slot w s d = omega (arith, plain-most (aluImm MOV W64 RCX slot), plain-most (alu TEST w s s), plain-most (alu XOR W32 d d))
+guard-most Mod slot w s d = omega (arith, plain-most (aluImm MOV W64 RCX slot), plain-most (alu TEST w s s))
+
+zero-most : (o : MulOp) (d : ℕ) → size (byZero o d) ≤ 3
+zero-most Mul d = omega (arith, plain-most (alu XOR W32 d d))
+zero-most Div d = omega (arith, plain-most (alu XOR W32 d d))
+zero-most Mod d = omega arith
+
+imm-most : (o : MulOp) (w : Width) (d i : ℕ) → size (mulDivModImm o w d i) ≤ 42
+imm-most o w d i =
+    chosen (eqb i 0) (byZero o d) (computed o w (op (aluImm MOV W64 RCX i) ∷ []) d) (omega (arith, zero-most o d))
+    (omega (arith, computed-most o w (op (aluImm MOV W64 RCX i) ∷ []) d {k = 7} (omega (arith, plain-most (aluImm MOV W64 RCX i)))))
+
+reg-most : (o : MulOp) (slot : ℕ) (w : Width) (s d : ℕ) → size (mulDivModReg o slot w s d) ≤ 42
+reg-most o slot w s d =
+    both (guard o slot w s d) (computed o w (op (alu MOV W64 s RCX) ∷ []) d) (guard-most o slot w s d)
+    (computed-most o w (op (alu MOV W64 s RCX) ∷ []) d {k = 3} (omega (arith, plain-most (alu MOV W64 s RCX))))
+
+swap-most : (d bits : ℕ) → size (swap d bits) ≤ 42
+swap-most d bits =
+    chosen (eqb bits 16) (op (rol16 d 8) ∷ op (aluImm AND W32 d 0xffff) ∷ []) (pick (eqb bits 32) (op (bswap W32 d) ∷ []) (op (bswap W64 d) ∷ []))
+    (omega (arith, plain-most (rol16 d 8), plain-most (aluImm AND W32 d 0xffff)))
+    (chosen (eqb bits 32) (op (bswap W32 d) ∷ []) (op (bswap W64 d) ∷ []) (omega (arith, plain-most (bswap W32 d))) (omega (arith, plain-most (bswap W64 d))))
+
+call-most : (t : Bool) (value target : ℕ) → size (pick t (helperCall value) (localCall target)) ≤ 42
+unfolding rex
+call-most t value target = chosen t (helperCall value) (localCall target) (omega (arith, load-most RAX value)) (omega arith)
+
+pub slot-most : (k : Kind) (slot : ℕ) (i : Insn) (value : ℕ) → size (slotCode k slot i value) ≤ 42
+slot-most (LdAbs z) slot i value = listing (slotCode (LdAbs z) slot i value) tt
+slot-most (LdInd z) slot i value = listing (slotCode (LdInd z) slot i value) tt
+slot-most LdDwImm slot i value = omega (arith, load-most (regOf (i .dst)) value)
+slot-most (LdReg z) slot i value = listing (slotCode (LdReg z) slot i value) tt
+slot-most (StImm z) slot i value = listing (slotCode (StImm z) slot i value) tt
+slot-most (StReg z) slot i value = listing (slotCode (StReg z) slot i value) tt
+slot-most (Alu o w Imm) slot i value = listing (slotCode (Alu o w Imm) slot i value) tt
+slot-most (Alu o w Reg) slot i value = listing (slotCode (Alu o w Reg) slot i value) tt
+slot-most (Shift o w Imm) slot i value = listing (slotCode (Shift o w Imm) slot i value) tt
+slot-most (Shift o w Reg) slot i value = listing (slotCode (Shift o w Reg) slot i value) tt
+slot-most (Neg w) slot i value = listing (slotCode (Neg w) slot i value) tt
+slot-most (MulDivMod o w Imm) slot i value = imm-most o w (regOf (i .dst)) (i .imm)
+slot-most (MulDivMod o w Reg) slot i value = reg-most o slot w (regOf (i .src)) (regOf (i .dst))
+slot-most (Mov w Imm) slot i value = listing (slotCode (Mov w Imm) slot i value) tt
+slot-most (Mov w Reg) slot i value = listing (slotCode (Mov w Reg) slot i value) tt
+slot-most Le slot i value = listing (slotCode Le slot i value) tt
+slot-most Be slot i value = swap-most (regOf (i .dst)) (i .imm)
+slot-most Ja slot i value = listing (slotCode Ja slot i value) tt
+slot-most (Jump c w Imm) slot i value = listing (slotCode (Jump c w Imm) slot i value) tt
+slot-most (Jump c w Reg) slot i value = listing (slotCode (Jump c w Reg) slot i value) tt
+slot-most Call slot i value = call-most (eqb (i .src) 0) value (targetOf slot (i .imm))
+slot-most Exit slot i value = listing (slotCode Exit slot i value) tt
+
+-- The listed jumps of a slot: one at most.
+abbrev jumpsIn : Code → ℕ
+jumpsIn c = length (targetsOf c)
+
+jumps-both : (a b : Code) → jumpsIn (a ++ b) ≡ jumpsIn a + jumpsIn b
+jumps-both a b = rw (targets-append a b) (length-append (targetsOf a) (targetsOf b))
+
+jumps-chosen : (t : Bool) (a b : Code) {k : ℕ} → jumpsIn a ≤ k → jumpsIn b ≤ k → jumpsIn (pick t a b) ≤ k
+jumps-chosen true a b h g = h
+jumps-chosen false a b h g = g
+
+jumps-unless : (r s : ℕ) (c : Code) → jumpsIn c ≤ 0 → jumpsIn (unlessIs r s c) ≤ 0
+jumps-unless r s c h = jumps-chosen (eqb r s) [] c (omega arith) h
+
+restore-none : (o : MulOp) (d : ℕ) → jumpsIn (restore o d) ≤ 0
+restore-none o d = by (fromRax o)
+  where
+    by : (b : Bool) → jumpsIn
+        (unlessIs d RDX (when (not b) (op (alu MOV W64 RDX d) ∷ []) ++ (op (pop RDX) ∷ []))
+        ++ unlessIs d RAX (when b (op (alu MOV W64 RAX d) ∷ []) ++ (op (pop RAX) ∷ []))) ≤ 0
+    by true =
+        rw (jumps-both (unlessIs d RDX (op (pop RDX) ∷ [])) (unlessIs d RAX (op (alu MOV W64 RAX d) ∷ op (pop RAX) ∷ [])))
+        (omega (arith, jumps-unless d RDX (op (pop RDX) ∷ []) (omega arith), jumps-unless d RAX (op (alu MOV W64 RAX d) ∷ op (pop RAX) ∷ []) (omega arith)))
+    by false =
+        rw (jumps-both (unlessIs d RDX (op (alu MOV W64 RDX d) ∷ op (pop RDX) ∷ [])) (unlessIs d RAX (op (pop RAX) ∷ [])))
+        (omega (arith, jumps-unless d RDX (op (alu MOV W64 RDX d) ∷ op (pop RDX) ∷ []) (omega arith), jumps-unless d RAX (op (pop RAX) ∷ []) (omega arith)))
+
+operate-none : (o : MulOp) (w : Width) → jumpsIn (operate o w) ≤ 0
+operate-none Mul w = omega arith
+operate-none Div w = omega arith
+operate-none Mod w = omega arith
+
+computed-none : (o : MulOp) (w : Width) (operand : Code) (d : ℕ) → jumpsIn operand ≤ 0 → jumpsIn (computed o w operand d) ≤ 0
+computed-none o w operand d h =
+    let main = op (alu MOV W64 d RAX) ∷ (operate o w ++ restore o d) in
+    let p = unlessIs d RAX (op (push RAX) ∷ []) in
+    let q = unlessIs d RDX (op (push RDX) ∷ []) in
+    rw (jumps-both p (q ++ (operand ++ main)), jumps-both q (operand ++ main), jumps-both operand main, jumps-both (operate o w) (restore o d))
+    (omega (arith, jumps-unless d RAX (op (push RAX) ∷ []) (omega arith), jumps-unless d RDX (op (push RDX) ∷ []) (omega arith), operate-none o w, restore-none o d))
+
+guard-jumps : (o : MulOp) (slot : ℕ) (w : Width) (s d : ℕ) → jumpsIn (guard o slot w s d) ≤ 1
+guard-jumps Mul slot w s d = omega arith
+guard-jumps Div slot w s d = omega arith
+guard-jumps Mod slot w s d = omega arith
+
+zero-none : (o : MulOp) (d : ℕ) → jumpsIn (byZero o d) ≤ 0
+zero-none Mul d = omega arith
+zero-none Div d = omega arith
+zero-none Mod d = omega arith
+
+pub slot-jumps : (k : Kind) (slot : ℕ) (i : Insn) (value : ℕ) → length (targetsOf (slotCode k slot i value)) ≤ 1
+slot-jumps (LdAbs z) slot i value = omega arith
+slot-jumps (LdInd z) slot i value = omega arith
+slot-jumps LdDwImm slot i value = omega arith
+slot-jumps (LdReg z) slot i value = omega arith
+slot-jumps (StImm z) slot i value = omega arith
+slot-jumps (StReg z) slot i value = omega arith
+slot-jumps (Alu o w Imm) slot i value = omega arith
+slot-jumps (Alu o w Reg) slot i value = omega arith
+slot-jumps (Shift o w Imm) slot i value = omega arith
+slot-jumps (Shift o w Reg) slot i value = omega arith
+slot-jumps (Neg w) slot i value = omega arith
+slot-jumps (MulDivMod o w Imm) slot i value =
+    jumps-chosen (eqb (i .imm) 0) (byZero o (regOf (i .dst))) (computed o w (op (aluImm MOV W64 RCX (i .imm)) ∷ []) (regOf (i .dst)))
+    (omega (arith, zero-none o (regOf (i .dst))))
+    (omega (arith, computed-none o w (op (aluImm MOV W64 RCX (i .imm)) ∷ []) (regOf (i .dst)) (omega arith)))
+slot-jumps (MulDivMod o w Reg) slot i value =
+    let s = regOf (i .src) in
+    let d = regOf (i .dst) in
+    rw (jumps-both (guard o slot w s d) (computed o w (op (alu MOV W64 s RCX) ∷ []) d))
+    (omega (arith, guard-jumps o slot w s d, computed-none o w (op (alu MOV W64 s RCX) ∷ []) d (omega arith)))
+slot-jumps (Mov w Imm) slot i value = omega arith
+slot-jumps (Mov w Reg) slot i value = omega arith
+slot-jumps Le slot i value = omega arith
+slot-jumps Be slot i value =
+    let d = regOf (i .dst) in
+    jumps-chosen (eqb (i .imm) 16) (op (rol16 d 8) ∷ op (aluImm AND W32 d 0xffff) ∷ []) (pick (eqb (i .imm) 32) (op (bswap W32 d) ∷ []) (op (bswap W64 d) ∷ [])) (omega arith)
+    (jumps-chosen (eqb (i .imm) 32) (op (bswap W32 d) ∷ []) (op (bswap W64 d) ∷ []) (omega arith) (omega arith))
+slot-jumps Ja slot i value = omega arith
+slot-jumps (Jump c w Imm) slot i value = omega arith
+slot-jumps (Jump c w Reg) slot i value = omega arith
+slot-jumps Call slot i value = jumps-chosen (eqb (i .src) 0) (helperCall value) (localCall (targetOf slot (i .imm))) (omega arith) (omega arith)
+slot-jumps Exit slot i value = omega arith

@@ -1,0 +1,132 @@
+-- What each kind of slot becomes: the match of `jit_compile` in the Rust, kind by kind. Where RFC 9669 means something else,
+-- docs/DIFFERENCES.md has an entry.
+-- Assumes nothing.
+use mathlib.Core.Bool.{Bool, true, false}
+use mathlib.Core.List.{List, [], _∷_, _++_}
+use Prim.Native.Nat.{ℕ, _+_, _%_, _^_}
+use lib.Dec.{leb, ltb, eqb}
+use lib.ListN.{getD}
+use Rattle.base.specs.Pick.{pick}
+use Rattle.base.specs.declared.Width.{Width}
+use Rattle.base.specs.declared.Width.the-variants.{W32, W64}
+use Rattle.base.specs.declared.Size.{Size}
+use Rattle.ebpf.specs.declared.insn.Insn.{Insn}
+use Rattle.ebpf.specs.declared.kind.Source.{Source}
+use Rattle.ebpf.specs.declared.kind.Source.the-variants.{Imm, Reg}
+use Rattle.ebpf.specs.declared.kind.AluOp.{AluOp}
+use Rattle.ebpf.specs.declared.kind.AluOp.the-variants.{Add, Sub, Or, And, Xor}
+use Rattle.ebpf.specs.declared.kind.ShiftOp.{ShiftOp}
+use Rattle.ebpf.specs.declared.kind.ShiftOp.the-variants.{Lsh, Rsh, Arsh}
+use Rattle.ebpf.specs.declared.kind.Condition.{Condition}
+use Rattle.ebpf.specs.declared.kind.Condition.the-variants.{Jeq, Jgt, Jge, Jset, Jne, Jsgt, Jsge, Jlt, Jle, Jslt, Jsle}
+use Rattle.ebpf.specs.declared.kind.Kind.{Kind}
+use Rattle.ebpf.specs.declared.kind.Kind.the-variants.{LdAbs, LdInd, LdDwImm, LdReg, StImm, StReg, Alu, Shift, Neg, MulDivMod, Mov, Le, Be, Ja, Jump, Call, Exit}
+use Rattle.x86.specs.Registers.{RAX, RCX, RDX, RBX, RBP, RSI, RDI, R8, R9, R10, R11, R13, R14, R15}
+use Rattle.x86.specs.Instr as x86
+use Rattle.x86.specs.Instr.{op, push, pop, alu, aluImm, shiftImm, shiftCl, unary, movabs, rol16, bswap, load, store, storeImm, immBits, jump, jmp, call, jcc, callReg, ret, ADD, OR, AND, SUB, XOR, CMP, MOV, TEST, SHL, SHR, SAR, NEG, JB, JAE, JE, JNE, JBE, JA, JL, JGE, JLE, JG}
+use Rattle.x86.specs.Code.{to}
+use Rattle.jit.specs.MulDivMod.{Code, mulDivModImm, mulDivModReg}
+
+-- REGISTER_MAP
+unfoldable pub regOf : ℕ → ℕ
+regOf r = getD (RAX ∷ RDI ∷ RSI ∷ RDX ∷ R9 ∷ R8 ∷ RBX ∷ R13 ∷ R14 ∷ R15 ∷ RBP ∷ []) r 0
+
+-- slot + distance + 1, modulo 2 ^ 32
+unfoldable pub targetOf : (slot distance : ℕ) → ℕ
+targetOf slot distance = (slot + 1 + distance) % 2 ^ 32
+
+-- `emit_load_imm`: a constant of 64 bits that is in the signed 32-bit range takes four bytes, any other eight
+unfoldable pub loadImm : (dst value : ℕ) → x86.Plain
+loadImm dst value = pick (ltb ((value + 2 ^ 31) % 2 ^ 64) (2 ^ 32)) (aluImm MOV W64 dst (value % 2 ^ 32)) (movabs dst value)
+
+abbrev pub aluOf : AluOp → x86.Alu
+aluOf Add = ADD
+aluOf Sub = SUB
+aluOf Or = OR
+aluOf And = AND
+aluOf Xor = XOR
+
+abbrev pub shiftOf : ShiftOp → x86.Shift
+shiftOf Lsh = SHL
+shiftOf Rsh = SHR
+shiftOf Arsh = SAR
+
+abbrev pub condOf : Condition → x86.Cond
+condOf Jeq = JE
+condOf Jgt = JA
+condOf Jge = JAE
+condOf Jset = JNE
+condOf Jne = JNE
+condOf Jsgt = JG
+condOf Jsge = JGE
+condOf Jlt = JB
+condOf Jle = JBE
+condOf Jslt = JL
+condOf Jsle = JLE
+
+-- what sets the flags for a condition
+abbrev pub testOf : Condition → x86.Alu
+testOf Jeq = CMP
+testOf Jgt = CMP
+testOf Jge = CMP
+testOf Jset = TEST
+testOf Jne = CMP
+testOf Jsgt = CMP
+testOf Jsge = CMP
+testOf Jlt = CMP
+testOf Jle = CMP
+testOf Jslt = CMP
+testOf Jsle = CMP
+
+-- BE: a swap of 16 bits is a rotation, and clears what is above
+abbrev pub swap : (dst bits : ℕ) → Code
+swap dst bits =
+    pick (eqb bits 16) (op (rol16 dst 8) ∷ op (aluImm AND W32 dst 0xffff) ∷ [])
+    (pick (eqb bits 32) (op (bswap W32 dst) ∷ []) (op (bswap W64 dst) ∷ []))
+
+-- RCX is the fourth argument of the machine's calling convention, R9 the program's
+abbrev pub helperCall : (address : ℕ) → Code
+helperCall address = op (alu MOV W64 R9 RCX) ∷ op (loadImm RAX address) ∷ callReg RAX ∷ []
+
+-- `emit_local_call`: r6 to r9 are the callee's to change
+abbrev pub localCall : (target : ℕ) → Code
+localCall target =
+    op (push RBX)
+    ∷ op (push R13)
+    ∷ op (push R14)
+    ∷ op (push R15)
+    ∷ jump call (to target)
+    ∷ op (pop R15)
+    ∷ op (pop R14)
+    ∷ op (pop R13)
+    ∷ op (pop RBX)
+    ∷ []
+
+-- The code of a slot. `value` is what the slot takes from elsewhere: a wide load's constant, the address of a helper.
+abbrev pub slotCode : Kind → (slot : ℕ) → Insn → (value : ℕ) → Code
+-- class LD: the packet is at R10
+slotCode (LdAbs z) slot i value = op (load z R10 RAX (i .imm)) ∷ []
+slotCode (LdInd z) slot i value = op (alu MOV W64 R10 R11) ∷ op (alu ADD W64 (regOf (i .src)) R11) ∷ op (load z R11 RAX (i .imm)) ∷ []
+slotCode LdDwImm slot i value = op (loadImm (regOf (i .dst)) value) ∷ []
+-- classes LDX, ST, STX
+slotCode (LdReg z) slot i value = op (load z (regOf (i .src)) (regOf (i .dst)) (i .off)) ∷ []
+slotCode (StImm z) slot i value = op (storeImm z (regOf (i .dst)) (i .off) (i .imm % 2 ^ immBits z)) ∷ []
+slotCode (StReg z) slot i value = op (store z (regOf (i .src)) (regOf (i .dst)) (i .off)) ∷ []
+-- classes ALU, ALU64
+slotCode (Alu o w Imm) slot i value = op (aluImm (aluOf o) w (regOf (i .dst)) (i .imm)) ∷ []
+slotCode (Alu o w Reg) slot i value = op (alu (aluOf o) w (regOf (i .src)) (regOf (i .dst))) ∷ []
+slotCode (Shift o w Imm) slot i value = op (shiftImm (shiftOf o) w (regOf (i .dst)) (i .imm % 256)) ∷ []
+slotCode (Shift o w Reg) slot i value = op (alu MOV W64 (regOf (i .src)) RCX) ∷ op (shiftCl (shiftOf o) w (regOf (i .dst))) ∷ []
+slotCode (Neg w) slot i value = op (unary NEG w (regOf (i .dst))) ∷ []
+slotCode (MulDivMod o w Imm) slot i value = mulDivModImm o w (regOf (i .dst)) (i .imm)
+slotCode (MulDivMod o w Reg) slot i value = mulDivModReg o slot w (regOf (i .src)) (regOf (i .dst))
+slotCode (Mov w Imm) slot i value = op (aluImm MOV w (regOf (i .dst)) (i .imm)) ∷ []
+slotCode (Mov w Reg) slot i value = op (alu MOV W64 (regOf (i .src)) (regOf (i .dst))) ∷ []
+slotCode Le slot i value = []
+slotCode Be slot i value = swap (regOf (i .dst)) (i .imm)
+-- classes JMP, JMP32
+slotCode Ja slot i value = jump jmp (to (targetOf slot (i .off))) ∷ []
+slotCode (Jump c w Imm) slot i value = op (aluImm (testOf c) w (regOf (i .dst)) (i .imm)) ∷ jump (jcc (condOf c)) (to (targetOf slot (i .off))) ∷ []
+slotCode (Jump c w Reg) slot i value = op (alu (testOf c) w (regOf (i .src)) (regOf (i .dst))) ∷ jump (jcc (condOf c)) (to (targetOf slot (i .off))) ∷ []
+slotCode Call slot i value = pick (eqb (i .src) 0) (helperCall value) (localCall (targetOf slot (i .imm)))
+slotCode Exit slot i value = ret ∷ []

@@ -1,0 +1,272 @@
+-- The whole translation: for every program, pair of flags, helper lists, and lengths of the code buffer and the three tables either the
+-- finished code with the tables' first entries, or one refusal. Document 01 gives the order: the sizes, then the slots from 0
+-- upward, then the epilogue, then the targets.
+-- Assumes nothing.
+use mathlib.Core.Bool.{Bool, true, false, _&&_, _||_, not}
+use mathlib.Core.List.{List, [], _∷_, _++_}
+use Prim.Native.Nat.{ℕ, zero, suc, _+_, _*_, _/_, _^_}
+use lib.Dec.{leb, ltb, eqb}
+use lib.ListN.{length, getD}
+use Rattle.base.specs.Pick.{pick}
+use Rattle.base.specs.declared.Slot.{Slot}
+use Rattle.ebpf.specs.Insn.{readAt}
+use Rattle.ebpf.specs.Opcode.{kindOf}
+use Rattle.ebpf.specs.declared.insn.Insn.{Insn}
+use Rattle.ebpf.specs.declared.insn.Read.{Read}
+use Rattle.ebpf.specs.declared.insn.Read.the-variants.{Whole, Torn}
+use Rattle.ebpf.specs.declared.kind.Kind.{Kind}
+use Rattle.ebpf.specs.declared.kind.Kind.the-variants.{LdAbs, LdInd, LdDwImm, LdReg, StImm, StReg, Alu, Shift, Neg, MulDivMod, Mov, Le, Be, Ja, Jump, Call, Exit}
+use Rattle.ebpf.specs.declared.kind.Lookup.{Lookup}
+use Rattle.ebpf.specs.declared.kind.Lookup.the-variants.{Known, Unimplemented, Unknown}
+use Rattle.jit.specs.declared.Flags.{Flags}
+use Rattle.jit.specs.declared.Helper.{Helper}
+use Rattle.jit.specs.declared.Helper.the-variants.{At, Missing}
+use Rattle.jit.specs.declared.Refusal.{Refusal}
+use Rattle.x86.specs.Code.{size, targetsOf, fieldsOf, codeOf}
+use Rattle.jit.specs.Limits.{shortestPage, longestPage, longestProgram, mostHelpers, anchor}
+use Rattle.jit.specs.MulDivMod.{Code}
+use Rattle.jit.specs.Slots.{slotCode}
+use Rattle.jit.specs.Frame.{prologue, epilogue}
+
+-- What is asked: contents of the program and the helper lists, lengths of the code buffer and of the tables.
+pub record Inputs : Type 0 where
+  pub program : List ℕ
+  pub flags : Flags
+  pub ids : List ℕ
+  pub addresses : List ℕ
+  pub page : ℕ
+  pub locations : ℕ
+  pub fields : ℕ
+  pub targets : ℕ
+
+-- n, the program's length divided by 8, rounded down
+abbrev pub slotsOf : List ℕ → ℕ
+slotsOf program = length program / 8
+
+abbrev pub at : ℕ → Slot
+at s = record { number = s }
+
+-- the address that is listed beside an id
+abbrev pub found : Bool → ℕ → Helper → Helper
+found true a h = At a
+found false a h = h
+
+unfoldable pub helperOf : (ids addresses : List ℕ) → (id : ℕ) → Helper
+helperOf [] addresses id = Missing
+helperOf (x ∷ ids) [] id = Missing
+helperOf (x ∷ ids) (a ∷ addresses) id = found (eqb x id) a (helperOf ids addresses id)
+
+-- One slot: the instructions of one slot, or of two.
+pub record Block : Type 0 where
+  pub code : Code
+  pub wide : Bool
+
+abbrev pub wideKind : Kind → Bool
+wideKind (LdAbs z) = false
+wideKind (LdInd z) = false
+wideKind LdDwImm = true
+wideKind (LdReg z) = false
+wideKind (StImm z) = false
+wideKind (StReg z) = false
+wideKind (Alu o w s) = false
+wideKind (Shift o w s) = false
+wideKind (Neg w) = false
+wideKind (MulDivMod o w s) = false
+wideKind (Mov w s) = false
+wideKind Le = false
+wideKind Be = false
+wideKind Ja = false
+wideKind (Jump c w s) = false
+wideKind Call = false
+wideKind Exit = false
+
+abbrev pub blockOf : Kind → ℕ → Insn → ℕ → Block
+blockOf k slot i value = record { code = slotCode k slot i value; wide = wideKind k }
+
+-- What a slot takes from elsewhere: the second half of a wide load's constant, the address of a helper. Or what is wrong with it.
+pub data Operand : Type 0 where
+  lacks : Refusal → Operand
+  has : (value : ℕ) → Operand
+
+abbrev pub wideValue : ℕ → Insn → Read → Operand
+wideValue slot i Torn = lacks (Refusal.Torn (at slot))
+wideValue slot i (Whole j) = has (i .imm + 2 ^ 32 * j .imm)
+
+abbrev pub swapBits : ℕ → Bool
+swapBits bits = eqb bits 16 || (eqb bits 32 || eqb bits 64)
+
+abbrev pub helperValue : ℕ → Helper → Operand
+helperValue slot (At a) = has a
+helperValue slot Missing = lacks (Refusal.UnknownHelper (at slot))
+
+-- src 0 is a helper by its id, src 1 a call within the program
+abbrev pub callValue : (ids addresses : List ℕ) → ℕ → Insn → Operand
+callValue ids addresses slot i =
+    pick (eqb (i .src) 0) (helperValue slot (helperOf ids addresses (i .imm)))
+    (pick (eqb (i .src) 1) (has 0) (lacks (Refusal.BadCall (at slot))))
+
+-- `next` is what reading the next slot gives
+abbrev pub operandOf : (ids addresses : List ℕ) → Kind → ℕ → Insn → (next : Read) → Operand
+operandOf ids addresses (LdAbs z) slot i next = has 0
+operandOf ids addresses (LdInd z) slot i next = has 0
+operandOf ids addresses LdDwImm slot i next = wideValue slot i next
+operandOf ids addresses (LdReg z) slot i next = has 0
+operandOf ids addresses (StImm z) slot i next = has 0
+operandOf ids addresses (StReg z) slot i next = has 0
+operandOf ids addresses (Alu o w s) slot i next = has 0
+operandOf ids addresses (Shift o w s) slot i next = has 0
+operandOf ids addresses (Neg w) slot i next = has 0
+operandOf ids addresses (MulDivMod o w s) slot i next = has 0
+operandOf ids addresses (Mov w s) slot i next = has 0
+operandOf ids addresses Le slot i next = has 0
+operandOf ids addresses Be slot i next = pick (swapBits (i .imm)) (has 0) (lacks (Refusal.BadSwap (at slot)))
+operandOf ids addresses Ja slot i next = has 0
+operandOf ids addresses (Jump c w s) slot i next = has 0
+operandOf ids addresses Call slot i next = callValue ids addresses slot i
+operandOf ids addresses Exit slot i next = has 0
+
+pub data Step : Type 0 where
+  stop : Refusal → Step
+  go : Block → Step
+
+abbrev pub taken : Kind → ℕ → Insn → Operand → Step
+taken k slot i (lacks r) = stop r
+taken k slot i (has value) = go (blockOf k slot i value)
+
+abbrev pub known : (ids addresses : List ℕ) → Lookup → ℕ → Insn → (next : Read) → Step
+known ids addresses Unknown slot i next = stop (Refusal.UnknownOpcode (at slot))
+known ids addresses Unimplemented slot i next = stop (Refusal.Unimplemented (at slot))
+known ids addresses (Known k) slot i next = taken k slot i (operandOf ids addresses k slot i next)
+
+abbrev pub goodRegisters : Insn → Bool
+goodRegisters i = leb (i .dst) 10 && leb (i .src) 10
+
+-- in this order: its bytes (6), its registers (7), its opcode (8, 9) and what that brings (10, 11, 12, or 6 for the second half)
+abbrev pub stepRead : (ids addresses : List ℕ) → ℕ → Read → (next : Read) → Step
+stepRead ids addresses slot Torn next = stop (Refusal.Torn (at slot))
+stepRead ids addresses slot (Whole i) next =
+    pick (goodRegisters i) (known ids addresses (kindOf (i .opc)) slot i next) (stop (Refusal.BadRegister (at slot)))
+
+unfoldable pub stepAt : (program ids addresses : List ℕ) → ℕ → Step
+stepAt program ids addresses slot = stepRead ids addresses slot (readAt program slot) (readAt program (slot + 1))
+
+-- All slots: a refusal, or the block of each.
+pub data Walk : Type 0 where
+  refused : Refusal → Walk
+  done : List Block → Walk
+
+abbrev pub joined : List Block → Walk → Walk
+joined bs (refused r) = refused r
+joined bs (done cs) = done (bs ++ cs)
+
+abbrev pub slotsWide : Bool → ℕ
+slotsWide true = 2
+slotsWide false = 1
+
+-- a slot's code has to end within the buffer (13)
+abbrev pub within : Bool → ℕ → Block → Walk → Walk
+within true slot b w = joined (b ∷ []) w
+within false slot b w = refused (Refusal.NoRoom (at slot))
+
+abbrev pub after : (page slot place : ℕ) → Step → (ℕ → ℕ → Walk) → Walk
+after page slot place (stop r) k = refused r
+after page slot place (go b) k = within (leb (place + size (b .code)) page) slot b (k (slot + slotsWide (b .wide)) (place + size (b .code)))
+
+-- the slots from one on, its code at a place; the fuel is at least the number of slots left
+unfoldable pub rest : (fuel : ℕ) → (program ids addresses : List ℕ) → (page slot place : ℕ) → Walk
+rest zero program ids addresses page slot place = done []
+rest (suc fuel) program ids addresses page slot place =
+    pick (ltb (8 * slot) (length program))
+    (after page slot place (stepAt program ids addresses slot) (λ s p. rest fuel program ids addresses page s p))
+    (done [])
+
+-- What is read off the blocks: their code, and the location of each slot, 0 for the second half of a wide load.
+abbrev pub flat : List Block → Code
+flat [] = []
+flat (b ∷ bs) = b .code ++ flat bs
+
+abbrev pub entries : (place : ℕ) → Bool → List ℕ
+entries place true = place ∷ 0 ∷ []
+entries place false = place ∷ []
+
+abbrev pub starts : (place : ℕ) → List Block → List ℕ
+starts place [] = []
+starts place (b ∷ bs) = entries place (b .wide) ++ starts (place + size (b .code)) bs
+
+-- A recorded target is a slot, or n, or the anchor. The first that is none of these is refused at the slot of its jump (14).
+unfoldable pub goodTarget : (n target : ℕ) → Bool
+goodTarget n t = leb t n || eqb t anchor
+
+pub data Bad : Type 0 where
+  nowhere : Bad
+  bad : (slot : ℕ) → Bad
+
+abbrev pub orElse : Bad → Bad → Bad
+orElse nowhere b = b
+orElse (bad s) b = bad s
+
+abbrev pub badIn : (n slot : ℕ) → (targets : List ℕ) → Bad
+badIn n slot [] = nowhere
+badIn n slot (t ∷ ts) = pick (goodTarget n t) (badIn n slot ts) (bad slot)
+
+abbrev pub firstBad : (n slot : ℕ) → List Block → Bad
+firstBad n slot [] = nowhere
+firstBad n slot (b ∷ bs) = orElse (badIn n slot (targetsOf (b .code))) (firstBad n (slot + slotsWide (b .wide)) bs)
+
+-- The finished code, the locations 0 to n, and the fields and targets of the jumps in the order emitted, the prologue's first.
+pub data Outcome : Type 0 where
+  no : Refusal → Outcome
+  yes : (code locations fields targets : List ℕ) → Outcome
+
+abbrev pub whole : Flags → List Block → Code
+whole f bs = prologue f ++ (flat bs ++ epilogue)
+
+abbrev pub locations : Flags → List Block → List ℕ
+locations f bs = starts (size (prologue f)) bs ++ (0 ∷ [])
+
+-- the exit anchor: where the epilogue begins
+abbrev pub exitOf : Flags → List Block → ℕ
+exitOf f bs = size (prologue f) + size (flat bs)
+
+-- where a target lies: the exit, or its location, which is 0, the page's first byte, for n and for a second half
+abbrev pub placeOf : (locations : List ℕ) → (exit target : ℕ) → ℕ
+placeOf locs exit t = pick (eqb t anchor) exit (getD locs t 0)
+
+abbrev pub accepted : Flags → List Block → Outcome
+accepted f bs =
+    yes (codeOf (placeOf (locations f bs) (exitOf f bs)) (whole f bs)) (locations f bs) (fieldsOf 0 (whole f bs)) (targetsOf (whole f bs))
+
+abbrev pub unlessBad : Bad → Outcome → Outcome
+unlessBad nowhere o = o
+unlessBad (bad s) o = no (Refusal.BadTarget (at s))
+
+abbrev pub finish : Flags → (n page : ℕ) → Walk → Outcome
+finish f n page (refused r) = no r
+finish f n page (done bs) = pick (leb (size (whole f bs)) page) (unlessBad (firstBad n 0 bs) (accepted f bs)) (no (Refusal.NoRoom (at n)))
+
+abbrev pub walkOf : Inputs → Walk
+walkOf x = rest (suc (slotsOf (x .program))) (x .program) (x .ids) (x .addresses) (x .page) 0 (size (prologue (x .flags)))
+
+-- Sizes (1 to 5), before anything is read of the program.
+abbrev pub listed : ℕ → List ℕ → Bool
+listed id [] = false
+listed id (x ∷ xs) = eqb x id || listed id xs
+
+abbrev pub twice : List ℕ → Bool
+twice [] = false
+twice (x ∷ xs) = listed x xs || twice xs
+
+abbrev pub badHelpers : (ids addresses : List ℕ) → Bool
+badHelpers ids addresses = not (eqb (length ids) (length addresses)) || (ltb mostHelpers (length ids) || twice ids)
+
+unfoldable pub sizesOf : Inputs → Outcome → Outcome
+sizesOf x o =
+    let n = slotsOf (x .program) in
+    pick (ltb (x .page) shortestPage) (no Refusal.PageTooShort)
+    (pick (ltb longestPage (x .page)) (no Refusal.PageTooLong)
+    (pick (ltb longestProgram (length (x .program))) (no Refusal.ProgramTooLong)
+    (pick (leb (x .locations) n || (leb (x .fields) n || leb (x .targets) n)) (no Refusal.TableTooShort)
+    (pick (badHelpers (x .ids) (x .addresses)) (no Refusal.BadHelpers) o))))
+
+unfoldable pub translationOf : Inputs → Outcome
+translationOf x = sizesOf x (finish (x .flags) (slotsOf (x .program)) (x .page) (walkOf x))

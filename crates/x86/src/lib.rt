@@ -1,0 +1,1 @@
+// The x86-64 instructions that the translator writes: what they are, their bytes, and their reader (specs/).

@@ -1,0 +1,278 @@
+//! Random cases. Most are small; about half are accepted; every refusal number
+//! has its share, alone and with others behind it, so that the order of the
+//! refusals is asked about too.
+//!
+//! Case number `at` of a seed depends on these two numbers alone.
+
+use crate::ebpf;
+use crate::judge::Judge;
+use crate::program::{self, Fault, Setting, FAULTS};
+use crate::random::Random;
+use crate::slots::{self, Opcodes};
+use crate::stream::{Answer, Case, Translation};
+
+const CODE_MIN: u32 = 4_096;
+const CODE_MAX: u32 = 131_072;
+/// Length of the epilogue.
+const EPILOGUE: i64 = 16;
+/// Jumps of a program that is to be trimmed stay below this slot.
+const TRIMMED_REACH: usize = 40;
+
+pub struct Generator {
+    judge: Judge,
+    opcodes: Opcodes,
+}
+
+impl Generator {
+    pub fn new() -> Result<Generator, String> {
+        let mut judge = Judge::new();
+        let opcodes = Opcodes::ask(&mut judge)?;
+        Ok(Generator { judge, opcodes })
+    }
+
+    pub fn case(&mut self, seed: u64, at: u64) -> Result<Case, String> {
+        let random = &mut Random::new(seed, at);
+        Ok(match random.below(1_000) {
+            0..=509 => self.small(random, 0),
+            510..=759 => self.small(random, 1),
+            760..=799 => self.small(random, 2),
+            800..=849 => self.wild(random),
+            850..=939 => self.misframed(random),
+            940..=966 => self.page_cut_to_code(random)?,
+            967..=991 => self.code_trimmed_to_page(random)?,
+            992..=996 => self.long(random),
+            _ => self.many_helpers(random),
+        })
+    }
+
+    /// A program of a few slots with so many faults.
+    fn small(&self, random: &mut Random, faults: usize) -> Case {
+        let n = match random.below(20) {
+            0 => 0,
+            1..=5 => 1,
+            6..=11 => 2 + random.below(3),
+            12..=17 => 5 + random.below(12),
+            _ => 17 + random.below(48),
+        };
+        let (ids, addresses) = few_helpers(random);
+        let program = self.program(random, &ids, n, faults);
+        framed(random, program, ids, addresses)
+    }
+
+    fn program(&self, random: &mut Random, ids: &[u32], n: usize, faults: usize) -> Vec<u8> {
+        let setting =
+            Setting { opcodes: &self.opcodes, helper_ids: ids, reach: n, fat: random.one_in(8) };
+        let mut program = program::good(random, &setting, n);
+        for _ in 0..faults {
+            let fault = random.pick(&FAULTS);
+            program::spoil(random, &setting, &mut program, fault);
+        }
+        program
+    }
+
+    fn wild(&self, random: &mut Random) -> Case {
+        let (ids, addresses) = few_helpers(random);
+        let n = 1 + random.below(6);
+        let program = program::wild(random, &self.opcodes, n);
+        framed(random, program, ids, addresses)
+    }
+
+    /// One of refusals 1 to 5 has its cause, sometimes several have.
+    fn misframed(&self, random: &mut Random) -> Case {
+        let faults = random.below(2);
+        let mut case = self.small(random, faults);
+        loop {
+            match random.below(16) {
+                0..=3 => case.code_len = random.pick(&[0, 1, 2_048, 4_094, 4_095]),
+                4..=7 => {
+                    case.code_len = random.pick(&[CODE_MAX + 1, CODE_MAX + 2, 1 << 20, u32::MAX])
+                }
+                8 => overlong(random, &mut case),
+                9..=11 => short_table(random, &mut case),
+                _ => bad_helpers(random, &mut case),
+            }
+            if !random.one_in(4) {
+                return case;
+            }
+        }
+    }
+
+    /// A long program and a page that ends near the end of its code, or near
+    /// the end of some slot's code.
+    fn page_cut_to_code(&mut self, random: &mut Random) -> Result<Case, String> {
+        let fat = !random.one_in(3);
+        let n = if fat { 120 + random.below(60) } else { 420 + random.below(160) };
+        let (case, page) = self.translated(random, n, n, fat)?;
+        let Some(page) = page else { return Ok(case) };
+        let end = if random.one_in(2) {
+            page.code.len() as i64 + random.between(-3, 3)
+        } else {
+            random.pick(&page.locations) as i64 + random.between(-45, 45)
+        };
+        let code_len = end.max(CODE_MIN as i64) as u32;
+        Ok(self.sometimes_spoiled(random, Case { code_len, ..case }))
+    }
+
+    /// A program whose code is made to end near the end of the smallest page.
+    fn code_trimmed_to_page(&mut self, random: &mut Random) -> Result<Case, String> {
+        let fat = !random.one_in(4);
+        let n = if fat { 230 } else { 700 };
+        let (case, page) = self.translated(random, n, TRIMMED_REACH, fat)?;
+        let Some(page) = page else { return Ok(case) };
+        let nearly = random.between(-3, 3);
+        let spread = random.between(-60, 45);
+        let body = CODE_MIN as i64 - EPILOGUE + random.pick(&[nearly, nearly, spread]);
+        let fits = |location: &u32| *location > 0 && *location as i64 <= body;
+        let kept = page.locations.iter().rposition(fits).unwrap_or(0);
+        let missing = body - page.locations[kept] as i64;
+        let mut program = case.program[..kept * 8].to_vec();
+        for _ in 0..missing.min(100) {
+            program.extend(slots::slot(ebpf::EXIT, 0, 0, 0, 0));
+        }
+        let case = Case { code_len: CODE_MIN, table_lens: [4_096; 3], program, ..case };
+        Ok(self.sometimes_spoiled(random, case))
+    }
+
+    /// A good program in the largest page, with its translation.
+    fn translated(
+        &mut self,
+        random: &mut Random,
+        n: usize,
+        reach: usize,
+        fat: bool,
+    ) -> Result<(Case, Option<Translation>), String> {
+        let (ids, addresses) = few_helpers(random);
+        let setting = Setting { opcodes: &self.opcodes, helper_ids: &ids, reach, fat };
+        let program = program::good(random, &setting, n);
+        let mut case = framed(random, program, ids, addresses);
+        case.code_len = CODE_MAX;
+        match self.judge.answer(&case)? {
+            Answer::Accepted(page) => Ok((case, Some(page))),
+            Answer::Refused { .. } => Ok((case, None)),
+        }
+    }
+
+    /// What comes first where the page is too short and a slot is bad as well?
+    fn sometimes_spoiled(&self, random: &mut Random, mut case: Case) -> Case {
+        if random.one_in(5) {
+            let setting = Setting {
+                opcodes: &self.opcodes,
+                helper_ids: &case.helper_ids,
+                reach: case.slots(),
+                fat: false,
+            };
+            let fault =
+                random.pick(&[Fault::Target, Fault::Target, Fault::Unknown, Fault::CutShort]);
+            program::spoil(random, &setting, &mut case.program, fault);
+        }
+        case
+    }
+
+    /// A program near the limit of 2,048 slots, in a page near the size of its
+    /// code or the largest.
+    fn long(&mut self, random: &mut Random) -> Case {
+        let n = random.pick(&[2_046, 2_047, 2_048, 2_048, 2_049]);
+        let (ids, addresses) = few_helpers(random);
+        let faults = random.below(2);
+        let program = self.program(random, &ids, n, faults);
+        let mut case = framed(random, program, ids, addresses);
+        case.code_len = random.pick(&[16_384, 24_576, CODE_MAX - 1, CODE_MAX]);
+        case
+    }
+
+    /// Helper lists at their limit, or just above it.
+    fn many_helpers(&self, random: &mut Random) -> Case {
+        let mut case = self.small(random, 0);
+        let count = random.pick(&[255, 256, 256, 257]);
+        let first = random.number() as u32;
+        case.helper_ids = (0..count).map(|at| first.wrapping_add(at * 3)).collect();
+        case.helper_addresses = (0..count).map(|_| address(random)).collect();
+        let faults = random.below(2);
+        case.program = self.program(random, &case.helper_ids, 6, faults);
+        case.table_lens = [8; 3];
+        case
+    }
+}
+
+fn address(random: &mut Random) -> u64 {
+    match random.below(4) {
+        0 => random.number(),
+        _ => random.pick(&slots::CONSTANTS),
+    }
+}
+
+/// Up to four helpers, ids all different.
+fn few_helpers(random: &mut Random) -> (Vec<u32>, Vec<u64>) {
+    let mut ids = Vec::new();
+    for _ in 0..random.below(5) {
+        let id = if random.one_in(3) { random.number() as u32 } else { random.pick(&slots::IDS) };
+        if !ids.contains(&id) {
+            ids.push(id);
+        }
+    }
+    let addresses = ids.iter().map(|_| address(random)).collect();
+    (ids, addresses)
+}
+
+/// A program in a frame that has room for it.
+fn framed(random: &mut Random, program: Vec<u8>, ids: Vec<u32>, addresses: Vec<u64>) -> Case {
+    let entries = program.len() as u32 / 8 + 1;
+    let flags = random.below(4);
+    let code_len = match random.below(64) {
+        0 => CODE_MAX,
+        1 => CODE_MAX - 1,
+        2..=7 => CODE_MIN + 1,
+        8..=15 => random.between(4_096, 8_192) as u32,
+        _ => CODE_MIN,
+    };
+    Case {
+        use_mbuff: flags & 1 != 0,
+        update_data_ptr: flags & 2 != 0,
+        code_len,
+        table_lens: [0; 3].map(|_| entries + random.pick(&[0, 0, 0, 1, 2, 100])),
+        helper_ids: ids,
+        helper_addresses: addresses,
+        program,
+    }
+}
+
+/// Refusal 3, from its edge on; now and then one byte below it.
+fn overlong(random: &mut Random, case: &mut Case) {
+    let len = random.pick(&[16_383, 16_384, 16_385, 16_386, 16_391, 16_392, 16_400, 20_000]);
+    case.program.resize(len, 0);
+    case.table_lens = [random.pick(&[2_048, 2_049, 4_096]); 3];
+}
+
+/// Refusal 4: one table, or two, or three, has fewer than n+1 entries.
+fn short_table(random: &mut Random, case: &mut Case) {
+    let n = case.slots() as u32;
+    let which = 1 + random.below(7);
+    for (at, len) in case.table_lens.iter_mut().enumerate() {
+        if which >> at & 1 != 0 {
+            *len = random.pick(&[n, n, n.saturating_sub(1), 0]);
+        }
+    }
+}
+
+/// Refusal 5: lengths that differ, too many, or an id twice.
+fn bad_helpers(random: &mut Random, case: &mut Case) {
+    match random.below(8) {
+        0 | 1 => case.helper_addresses.push(address(random)),
+        2 if !case.helper_ids.is_empty() => case.helper_addresses.clear(),
+        2 | 3 => case.helper_ids.push(0x0bad_0bad),
+        4 if random.one_in(4) => {
+            let count = random.pick(&[257, 258, 512]);
+            case.helper_ids = (0..count).collect();
+            case.helper_addresses = (0..count as u64).collect();
+        }
+        _ => {
+            let id = case.helper_ids.first().map_or(7, |id| *id);
+            case.helper_ids.extend([8, id, 9]);
+            case.helper_ids.insert(0, id);
+            case.helper_addresses.resize(case.helper_ids.len(), 0);
+        }
+    }
+    // More than the format carries cannot be asked.
+    case.helper_ids.truncate(512);
+    case.helper_addresses.truncate(512);
+}

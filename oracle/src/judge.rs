@@ -1,0 +1,231 @@
+//! Runs a case through the Rust and puts document 01's numbers to how it ends.
+//!
+//! What is translated, and to which bytes, the Rust alone decides. The oracle
+//! adds the few lines that document 01 adds: refusals 2 to 5, which the Rust
+//! does not have, and the names of the Rust's own endings, which are error
+//! texts and panic texts there and numbers here. An ending that has no number
+//! is a failure of the oracle, said in a sentence; it is never guessed at.
+
+use crate::observe::{self, debug_number, Panic, Seen, EXIT_ANCHOR, NO_LOCATION};
+use crate::stream::{Answer, Case, Translation};
+use crate::{ebpf, jit, HashMap};
+
+const CODE_MIN: u32 = 4_096;
+const CODE_MAX: u32 = 131_072;
+const PROGRAM_MAX: usize = 16_384;
+const HELPERS_MAX: usize = 256;
+const EPILOGUE: usize = 16;
+/// Bytes behind the code buffer that are watched as well.
+const GUARD: usize = 64;
+
+/// The page that is lent; the Rust asks for one that begins at a multiple of
+/// 4,096.
+#[repr(align(4096))]
+struct Page([u8; CODE_MAX as usize + GUARD]);
+
+/// Where an ending of the Rust is read: an error's text, or a panic's with the
+/// file it comes from.
+#[derive(PartialEq)]
+enum Place {
+    Error,
+    Panic(&'static str),
+}
+use Place::{Error as AnError, Panic as PanicIn};
+
+/// Every way in which the Rust refuses: where, the words it begins with, and
+/// the number that document 01 gives it.
+const ENDINGS: [(Place, &str, u8); 10] = [
+    (AnError, "Executable memory is too small", 1),
+    (PanicIn("ebpf.rs"), "Error: cannot reach instruction at index ", 6),
+    (PanicIn("jit.rs"), "assertion failed: r < REGISTER_MAP_SIZE as u8", 7),
+    (AnError, "[JIT] Error: unknown eBPF opcode ", 8),
+    (PanicIn("jit.rs"), "not implemented", 9),
+    (PanicIn("jit.rs"), "internal error: entered unreachable code", 10),
+    (AnError, "[JIT] Error: unknown helper function ", 11),
+    (AnError, "[JIT] Error: unexpected call type ", 12),
+    (PanicIn("jit.rs"), "assertion failed: mem.offset + size <= mem.contents.len()", 13),
+    (PanicIn("jit.rs"), NO_LOCATION, 14),
+];
+
+/// Answers cases, one after the other, on one page.
+pub struct Judge {
+    page: Box<Page>,
+    /// What the page holds before a run.
+    pattern: Vec<u8>,
+}
+
+impl Judge {
+    pub fn new() -> Judge {
+        let pattern = (0..CODE_MAX as usize + GUARD).map(|at| (at * 167 + 13 + at / 256) as u8);
+        Judge { page: Box::new(Page([0; CODE_MAX as usize + GUARD])), pattern: pattern.collect() }
+    }
+
+    /// The answer to a case, or a sentence about what the oracle cannot
+    /// account for.
+    pub fn answer(&mut self, case: &Case) -> Result<Answer, String> {
+        // Refusal 1 comes ahead of 2 to 5, and is the Rust's own.
+        if case.code_len >= CODE_MIN {
+            if let Some(number) = added_refusal(case) {
+                return Ok(Answer::Refused { number, slot: 0 });
+            }
+        }
+        let lent = case.code_len as usize;
+        self.page.0[..lent + GUARD].copy_from_slice(&self.pattern[..lent + GUARD]);
+        let (ending, seen) = observe::watch(|| translate(case, &mut self.page.0[..lent]));
+        self.untouched(lent, lent + GUARD, "behind the code buffer")?;
+        match ending {
+            Ok(Ok(len)) => self.accepted(case, &seen, len),
+            Ok(Err(text)) => refused(case, &seen, AnError, &text),
+            Err(panic) => refused(case, &seen, place_of(&panic), &panic.text),
+        }
+    }
+
+    fn untouched(&self, from: usize, to: usize, where_: &str) -> Result<(), String> {
+        if self.page.0[from..to] == self.pattern[from..to] {
+            return Ok(());
+        }
+        Err(format!("the Rust has written {where_}"))
+    }
+
+    /// Gathers an accepted translation, and checks what must be so of it.
+    fn accepted(&self, case: &Case, seen: &Seen, len: usize) -> Result<Answer, String> {
+        self.untouched(len, case.code_len as usize, "behind the finished code")?;
+        let whole = seen.epilogue == Some(len - EPILOGUE)
+            && seen.locations.len() == case.slots() + 1
+            && seen.resolved == seen.jumps.len()
+            && seen.jumps[0].target == EXIT_ANCHOR;
+        if !whole {
+            return Err("the notes of an accepted run do not agree with its code".to_string());
+        }
+        Ok(Answer::Accepted(Translation {
+            code: self.page.0[..len].to_vec(),
+            locations: seen.locations.iter().map(|location| *location as u32).collect(),
+            fields: seen.jumps.iter().map(|jump| jump.field as u32).collect(),
+            targets: seen.jumps.iter().map(|jump| jump.target as u32).collect(),
+        }))
+    }
+}
+
+/// Refusals 2 to 5, in document 01's order.
+fn added_refusal(case: &Case) -> Option<u8> {
+    let entries = case.slots() as u32 + 1;
+    let short = |len: &u32| *len < entries;
+    if case.code_len > CODE_MAX {
+        Some(2)
+    } else if case.program.len() > PROGRAM_MAX {
+        Some(3)
+    } else if case.table_lens.iter().any(short) {
+        Some(4)
+    } else if !helpers_are_good(&case.helper_ids, &case.helper_addresses) {
+        Some(5)
+    } else {
+        None
+    }
+}
+
+fn helpers_are_good(ids: &[u32], addresses: &[u64]) -> bool {
+    let mut sorted = ids.to_vec();
+    sorted.sort_unstable();
+    let twice = sorted.windows(2).any(|pair| pair[0] == pair[1]);
+    ids.len() == addresses.len() && ids.len() <= HELPERS_MAX && !twice
+}
+
+/// The run itself: the code's length, or the error's text.
+fn translate(case: &Case, page: &mut [u8]) -> Result<usize, String> {
+    let helpers = HashMap::of_helpers(&case.helper_ids, &case.helper_addresses);
+    let made =
+        jit::JitMemory::new(&case.program, page, &helpers, case.use_mbuff, case.update_data_ptr);
+    match made {
+        Ok(memory) => Ok(debug_number(&format!("{memory:?}"), "offset: ") as usize),
+        Err(error) => Err(error.0),
+    }
+}
+
+fn place_of(panic: &Panic) -> Place {
+    match panic.file.rsplit(['/', '\\']).next() {
+        Some("jit.rs") => PanicIn("jit.rs"),
+        Some("ebpf.rs") => PanicIn("ebpf.rs"),
+        _ => PanicIn("another file"),
+    }
+}
+
+/// The numbered refusal for an ending of the Rust.
+fn refused(case: &Case, seen: &Seen, place: Place, text: &str) -> Result<Answer, String> {
+    let known = |ending: &&(Place, &str, u8)| ending.0 == place && text.starts_with(ending.1);
+    let Some((_, _, number)) = ENDINGS.iter().find(known) else {
+        return Err(format!("the Rust has ended in a way that has no number: {text}"));
+    };
+    let slot = slot_of(*number, case, seen, text)
+        .ok_or_else(|| format!("no slot is known for refusal {number}: {text}"))?;
+    Ok(Answer::Refused { number: *number, slot: slot as u32 })
+}
+
+/// The slot that goes with a refusal.
+fn slot_of(number: u8, case: &Case, seen: &Seen, text: &str) -> Option<usize> {
+    let n = case.slots();
+    match number {
+        1 => Some(0),
+        6 => cut_slot(case, seen, text),
+        8 | 12 => seen.slot.filter(|slot| text.ends_with(&format!("(insn #{slot})"))),
+        13 if seen.epilogue.is_some() => Some(n),
+        14 => bad_jump_slot(n, seen),
+        _ => seen.slot,
+    }
+}
+
+/// The slot whose bytes are not all there. The Rust can fail on reading slot n
+/// for two reasons: slot n itself has begun, or a wide load in slot n-1 wants
+/// its second half; the latter is its first slot's affair.
+fn cut_slot(case: &Case, seen: &Seen, text: &str) -> Option<usize> {
+    let n = case.slots();
+    if !text.contains(&format!("at index {n} in")) {
+        return None;
+    }
+    match seen.slot {
+        Some(slot) if slot + 1 == n && case.program[slot * 8] == ebpf::LD_DW_IMM => Some(slot),
+        _ => Some(n),
+    }
+}
+
+/// The slot of the jump that was being resolved, which must be a bad one and
+/// the first.
+fn bad_jump_slot(n: usize, seen: &Seen) -> Option<usize> {
+    let bad = |target: isize| !(0..=n as isize).contains(&target) && target != EXIT_ANCHOR;
+    let first = seen.jumps.iter().position(|jump| bad(jump.target))?;
+    if first + 1 != seen.resolved {
+        return None;
+    }
+    seen.jumps[first].slot
+}
+
+#[cfg(test)]
+mod tests {
+    use super::*;
+    use crate::slots::plain_case;
+
+    #[test]
+    fn an_ending_without_a_number_is_a_failure() {
+        let case = plain_case(&[0x95, 0, 0, 0, 0, 0, 0, 0]);
+        let seen = Seen { slot: Some(0), ..Seen::default() };
+        let unknown = |place, text| refused(&case, &seen, place, text).is_err();
+        assert!(unknown(AnError, "Executable memory is not aligned"));
+        assert!(unknown(PanicIn("jit.rs"), "attempt to add with overflow"));
+        // The right words from the wrong place are no refusal either.
+        assert!(unknown(PanicIn("another file"), "not implemented"));
+        assert!(unknown(AnError, "not implemented"));
+        assert!(unknown(PanicIn("jit.rs"), "[JIT] Error: unknown eBPF opcode 0xff (insn #0)"));
+        // So is a slot that the text contradicts.
+        assert!(unknown(AnError, "[JIT] Error: unknown eBPF opcode 0xff (insn #1)"));
+        assert!(!unknown(AnError, "[JIT] Error: unknown eBPF opcode 0xff (insn #0)"));
+    }
+
+    #[test]
+    fn a_write_behind_the_page_is_seen() {
+        let mut judge = Judge::new();
+        let page = [0x95, 0, 0, 0, 0, 0, 0, 0];
+        judge.answer(&plain_case(&page)).expect("an answer");
+        assert!(judge.untouched(51, 4_096, "").is_ok());
+        judge.page.0[4_000] ^= 1;
+        assert!(judge.untouched(51, 4_096, "").is_err());
+    }
+}

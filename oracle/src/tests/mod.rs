@@ -1,0 +1,64 @@
+//! Tests of the oracle itself: document 01's worked bytes, the facts known of
+//! the Rust, the order of the refusals, the streams, and the spread of the
+//! random cases.
+
+mod facts;
+mod order;
+mod spread;
+mod streams;
+mod worked;
+
+use crate::judge::Judge;
+use crate::slots::{plain_case, Opcodes};
+use crate::stream::{Answer, Case, Translation};
+
+const EXIT: [u8; 8] = [crate::ebpf::EXIT, 0, 0, 0, 0, 0, 0, 0];
+const EPILOGUE: usize = 16;
+
+fn case_of(program: &[[u8; 8]]) -> Case {
+    plain_case(&program.concat())
+}
+
+fn ask(case: &Case) -> Answer {
+    Judge::new().answer(case).expect("the oracle has an answer")
+}
+
+fn opcodes() -> Opcodes {
+    Opcodes::ask(&mut Judge::new()).expect("the oracle knows every opcode byte")
+}
+
+fn refused(case: &Case) -> (u8, u32) {
+    match ask(case) {
+        Answer::Refused { number, slot } => (number, slot),
+        accepted => panic!("{accepted}"),
+    }
+}
+
+fn accepted(case: &Case) -> Translation {
+    match ask(case) {
+        Answer::Accepted(page) => page,
+        refused => panic!("{refused}"),
+    }
+}
+
+/// The code of one slot: up to where the next location, or the epilogue, is.
+fn slot_code(page: &Translation, slot: usize) -> &[u8] {
+    let start = page.locations[slot] as usize;
+    let next = page.locations[slot + 1..].iter().find(|location| **location > 0);
+    let end = next.map_or(page.code.len() - EPILOGUE, |location| *location as usize);
+    &page.code[start..end]
+}
+
+/// The code of a slot that stands alone, its jump fields emptied.
+fn code_alone(slot: [u8; 8]) -> Vec<u8> {
+    let mut page = accepted(&case_of(&[slot]));
+    for field in &page.fields {
+        page.code[*field as usize..*field as usize + 4].fill(0);
+    }
+    slot_code(&page, 0).to_vec()
+}
+
+fn bytes(hex: &str) -> Vec<u8> {
+    let byte = |digits| u8::from_str_radix(digits, 16).expect("two hexadecimal digits");
+    hex.split_whitespace().map(byte).collect()
+}

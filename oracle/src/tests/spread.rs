@@ -1,0 +1,64 @@
+//! The random cases: the same for the same seed, and spread as they should be.
+
+use crate::ebpf;
+use crate::generate::Generator;
+use crate::judge::Judge;
+use crate::stream::Answer;
+
+const SEED: u64 = 9;
+const COUNT: u64 = 20_000;
+
+#[test]
+fn a_seed_gives_the_same_cases() {
+    let mut one = Generator::new().expect("a generator");
+    let mut other = Generator::new().expect("a generator");
+    for at in 0..200 {
+        assert_eq!(one.case(SEED, at), other.case(SEED, at));
+    }
+    assert_ne!(one.case(SEED, 0), one.case(SEED + 1, 0));
+}
+
+#[test]
+fn half_are_accepted_and_every_refusal_has_its_share() {
+    let mut generator = Generator::new().expect("a generator");
+    let mut judge = Judge::new();
+    let mut counts = [0; 15];
+    // 13 at slot n, the epilogue's, and 13 at a slot before it.
+    let mut page_ends = [0; 2];
+    for at in 0..COUNT {
+        let case = generator.case(SEED, at).expect("a case");
+        match judge.answer(&case).expect("an answer") {
+            Answer::Accepted(_) => counts[0] += 1,
+            Answer::Refused { number, slot } => {
+                counts[number as usize] += 1;
+                if number == 13 {
+                    page_ends[(slot < case.slots() as u32) as usize] += 1;
+                }
+            }
+        }
+    }
+    assert!((40..=60).contains(&(counts[0] * 100 / COUNT)), "{counts:?}");
+    assert!(counts.iter().all(|count| *count >= 50), "{counts:?}");
+    assert!(page_ends.iter().all(|count| *count >= 50), "{page_ends:?}");
+}
+
+#[test]
+fn every_opcode_byte_and_register_value_is_asked_about() {
+    let mut generator = Generator::new().expect("a generator");
+    let (mut opcodes, mut dsts, mut srcs) = ([0; 256], [0; 16], [0; 16]);
+    for at in 0..COUNT {
+        let case = generator.case(SEED, at).expect("a case");
+        // The slots of small programs; second halves are not asked about.
+        let mut slots = case.program.chunks_exact(8).take(20);
+        while let Some(slot) = slots.next() {
+            opcodes[slot[0] as usize] += 1;
+            dsts[slot[1] as usize & 15] += 1;
+            srcs[slot[1] as usize >> 4] += 1;
+            if slot[0] == ebpf::LD_DW_IMM {
+                slots.next();
+            }
+        }
+    }
+    assert!(opcodes.iter().all(|count| *count > 0), "{opcodes:?}");
+    assert!(dsts.iter().chain(&srcs).all(|count| *count > 20), "{dsts:?} {srcs:?}");
+}
