@@ -8,7 +8,7 @@ pub struct Slot {
 
 // A place in the page: an offset from its first byte. It indexes the code.
 pub struct Position {
-    pub at: usize,
+    pub offset: usize,
 }
 
 // How much of a register an operation works on.

@@ -1,7 +1,10 @@
 pub mod Registers
 pub mod Instr
 pub mod Encode
+pub mod Decode
+pub mod RoundTrip
 pub mod Lengths
 pub mod Code
+pub mod Wrote
 pub mod Fill
 pub mod Displacement
