@@ -17,6 +17,7 @@ use Rattle.ebpf.specs.declared.kind.AluOp.{AluOp}
 use Rattle.ebpf.specs.declared.kind.AluOp.the-variants.{Add, Sub, Or, And, Xor}
 use Rattle.ebpf.specs.declared.kind.ShiftOp.{ShiftOp}
 use Rattle.ebpf.specs.declared.kind.ShiftOp.the-variants.{Lsh, Rsh, Arsh}
+use Rattle.ebpf.specs.declared.kind.MulOp.{MulOp}
 use Rattle.ebpf.specs.declared.kind.Condition.{Condition}
 use Rattle.ebpf.specs.declared.kind.Condition.the-variants.{Jeq, Jgt, Jge, Jset, Jne, Jsgt, Jsge, Jlt, Jle, Jslt, Jsle}
 use Rattle.ebpf.specs.declared.kind.Kind.{Kind}
@@ -102,6 +103,35 @@ localCall target =
     ∷ op (pop RBX)
     ∷ []
 
+-- Arithmetic, by where the second operand comes from. A shift by a register takes its count from CL; MOV32_REG is the 64-bit copy.
+abbrev pub aluCode : AluOp → Width → Source → Insn → Code
+aluCode o w Imm i = op (aluImm (aluOf o) w (regOf (i .dst)) (i .imm)) ∷ []
+aluCode o w Reg i = op (alu (aluOf o) w (regOf (i .src)) (regOf (i .dst))) ∷ []
+
+abbrev pub shiftCode : ShiftOp → Width → Source → Insn → Code
+shiftCode o w Imm i = op (shiftImm (shiftOf o) w (regOf (i .dst)) (i .imm % 256)) ∷ []
+shiftCode o w Reg i = op (alu MOV W64 (regOf (i .src)) RCX) ∷ op (shiftCl (shiftOf o) w (regOf (i .dst))) ∷ []
+
+abbrev pub mulDivModCode : MulOp → Width → Source → (slot : ℕ) → Insn → Code
+mulDivModCode o w Imm slot i = mulDivModImm o w (regOf (i .dst)) (i .imm)
+mulDivModCode o w Reg slot i = mulDivModReg o slot w (regOf (i .src)) (regOf (i .dst))
+
+abbrev pub movCode : Width → Source → Insn → Code
+movCode w Imm i = op (aluImm MOV w (regOf (i .dst)) (i .imm)) ∷ []
+movCode w Reg i = op (alu MOV W64 (regOf (i .src)) (regOf (i .dst))) ∷ []
+
+-- a conditional jump: the comparison, at the operation's width, and the jump
+abbrev pub compare : Condition → Width → Source → Insn → x86.Plain
+compare c w Imm i = aluImm (testOf c) w (regOf (i .dst)) (i .imm)
+compare c w Reg i = alu (testOf c) w (regOf (i .src)) (regOf (i .dst))
+
+abbrev pub jumpCode : Condition → Width → Source → (slot : ℕ) → Insn → Code
+jumpCode c w s slot i = op (compare c w s i) ∷ jump (jcc (condOf c)) (to (targetOf slot (i .off))) ∷ []
+
+-- src 0 is a helper, at the address `value`; src 1 a call within the program
+abbrev pub callCode : (slot : ℕ) → Insn → (value : ℕ) → Code
+callCode slot i value = pick (eqb (i .src) 0) (helperCall value) (localCall (targetOf slot (i .imm)))
+
 -- The code of a slot. `value` is what the slot takes from elsewhere: a wide load's constant, the address of a helper.
 abbrev pub slotCode : Kind → (slot : ℕ) → Insn → (value : ℕ) → Code
 -- class LD: the packet is at R10
@@ -113,20 +143,15 @@ slotCode (LdReg z) slot i value = op (load z (regOf (i .src)) (regOf (i .dst)) (
 slotCode (StImm z) slot i value = op (storeImm z (regOf (i .dst)) (i .off) (i .imm % 2 ^ immBits z)) ∷ []
 slotCode (StReg z) slot i value = op (store z (regOf (i .src)) (regOf (i .dst)) (i .off)) ∷ []
 -- classes ALU, ALU64
-slotCode (Alu o w Imm) slot i value = op (aluImm (aluOf o) w (regOf (i .dst)) (i .imm)) ∷ []
-slotCode (Alu o w Reg) slot i value = op (alu (aluOf o) w (regOf (i .src)) (regOf (i .dst))) ∷ []
-slotCode (Shift o w Imm) slot i value = op (shiftImm (shiftOf o) w (regOf (i .dst)) (i .imm % 256)) ∷ []
-slotCode (Shift o w Reg) slot i value = op (alu MOV W64 (regOf (i .src)) RCX) ∷ op (shiftCl (shiftOf o) w (regOf (i .dst))) ∷ []
+slotCode (Alu o w s) slot i value = aluCode o w s i
+slotCode (Shift o w s) slot i value = shiftCode o w s i
 slotCode (Neg w) slot i value = op (unary NEG w (regOf (i .dst))) ∷ []
-slotCode (MulDivMod o w Imm) slot i value = mulDivModImm o w (regOf (i .dst)) (i .imm)
-slotCode (MulDivMod o w Reg) slot i value = mulDivModReg o slot w (regOf (i .src)) (regOf (i .dst))
-slotCode (Mov w Imm) slot i value = op (aluImm MOV w (regOf (i .dst)) (i .imm)) ∷ []
-slotCode (Mov w Reg) slot i value = op (alu MOV W64 (regOf (i .src)) (regOf (i .dst))) ∷ []
+slotCode (MulDivMod o w s) slot i value = mulDivModCode o w s slot i
+slotCode (Mov w s) slot i value = movCode w s i
 slotCode Le slot i value = []
 slotCode Be slot i value = swap (regOf (i .dst)) (i .imm)
 -- classes JMP, JMP32
 slotCode Ja slot i value = jump jmp (to (targetOf slot (i .off))) ∷ []
-slotCode (Jump c w Imm) slot i value = op (aluImm (testOf c) w (regOf (i .dst)) (i .imm)) ∷ jump (jcc (condOf c)) (to (targetOf slot (i .off))) ∷ []
-slotCode (Jump c w Reg) slot i value = op (alu (testOf c) w (regOf (i .src)) (regOf (i .dst))) ∷ jump (jcc (condOf c)) (to (targetOf slot (i .off))) ∷ []
-slotCode Call slot i value = pick (eqb (i .src) 0) (helperCall value) (localCall (targetOf slot (i .imm)))
+slotCode (Jump c w s) slot i value = jumpCode c w s slot i
+slotCode Call slot i value = callCode slot i value
 slotCode Exit slot i value = ret ∷ []

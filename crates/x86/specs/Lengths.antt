@@ -48,8 +48,8 @@ memory-most r b x = by (bare b x) (short x)
     by false true = omega arith
     by false false = omega arith
 
--- a prefix REX and k bytes more
-behind : (w r b : ℕ) (xs : List ℕ) → length (rex w r b ++ xs) ≤ 1 + length xs
+-- a REX and what follows it
+pub behind : (w r b : ℕ) (xs : List ℕ) → length (rex w r b ++ xs) ≤ 1 + length xs
 behind w r b xs = rw (length-append (rex w r b) xs) (omega (arith, rex-most w r b))
 
 load-most : (z : Size) (b d x : ℕ) → length (loadOpcode z ++ memory d b x) ≤ 7

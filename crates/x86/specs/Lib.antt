@@ -6,5 +6,6 @@ pub mod RoundTrip
 pub mod Lengths
 pub mod Code
 pub mod Wrote
+pub mod Words
 pub mod Fill
 pub mod Displacement

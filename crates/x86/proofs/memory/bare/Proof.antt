@@ -1,0 +1,19 @@
+use borrow.Author.Tests.{eq-eqb, ne-eqb}
+use Rattle.x86.specs.Encode.{bare}
+use Rattle.x86.proofs.memory.bare.Statement.{statement}
+use Rattle.x86.proofs.memory.bare.Tie as tie
+use Rattle.x86.proofs.memory.bare.Reads as reads
+use Rattle.x86.proofs.memory.bare.Lts as lts
+
+-- src/memory.rt:20:1
+returns : tie.Need-returns
+unfolding bare
+returns c = simp (eq-eqb _ _ (c .if1 .taken))
+
+-- src/memory.rt:20:1
+returns-2 : tie.Need-returns-2
+unfolding bare
+returns-2 c = simp (ne-eqb _ _ (c .if1 .left))
+
+pub bare-spec : {M : Type 1} → statement M
+bare-spec = tie.close (tie.spec returns returns-2)
