@@ -35,3 +35,12 @@ module _ {A : Type 0} where
       ∙ ap (λ (t : List A). getD t k d) e
       ∙ values-at f d n 0 k h
       ∙ ap f (zero-add k)
+
+  -- two functions that give the same up to n
+  pub agree : (f g : ℕ → A) (n : ℕ) → values f 0 n ≡ values g 0 n → (k : ℕ) → k < n → f k ≡ g k
+  agree f g n e k h =
+      ap f (sym (zero-add k))
+      ∙ sym (values-at f (f 0) n 0 k h)
+      ∙ ap (λ (t : List A). getD t k (f 0)) e
+      ∙ values-at g (f 0) n 0 k h
+      ∙ ap g (zero-add k)

@@ -21,12 +21,14 @@ use Rattle.ebpf.specs.declared.kind.Lookup.{Lookup}
 use Rattle.ebpf.specs.declared.kind.Lookup.the-variants.{Known, Unimplemented, Unknown}
 use Rattle.jit.specs.declared.Flags.{Flags}
 use Rattle.jit.specs.declared.Refusal.{Refusal}
+use Rattle.jit.specs.declared.Bad.{Bad}
+use Rattle.jit.specs.declared.Bad.the-variants.{Nowhere, At}
 use Rattle.x86.specs.Code.{size, size-append, targetsOf, targets-append, fieldsOf, codeOf, length-bytes, length-fields}
 use Rattle.jit.specs.Limits.{shortestPage, longestPage, longestProgram}
 use Rattle.jit.specs.Slots.{slotCode}
 use Rattle.jit.specs.SlotSize.{slot-most, slot-jumps}
 use Rattle.jit.specs.Frame.{prologue, epilogue, prologue-size, epilogue-size, prologue-targets, epilogue-targets}
-use Rattle.jit.specs.Translation.{Inputs, slotsOf, Block, wideKind, blockOf, Operand, lacks, has, wideValue, operandOf, Step, stop, go, taken, known, goodRegisters, stepRead, stepAt, Walk, refused, done, joined, slotsWide, within, after, rest, flat, starts, entries, Bad, nowhere, bad, firstBad, Outcome, no, yes, whole, locations, exitOf, placeOf, accepted, unlessBad, finish, walkOf, badHelpers, sizesOf, translationOf}
+use Rattle.jit.specs.Translation.{Inputs, slotsOf, Block, wideKind, blockOf, Operand, lacks, has, wideValue, operandOf, Step, stop, go, taken, known, goodRegisters, stepRead, stepAt, Walk, refused, done, joined, slotsWide, within, after, rest, flat, starts, entries, firstBad, Outcome, no, yes, whole, locations, exitOf, placeOf, accepted, unlessBad, finish, walkOf, badHelpers, sizesOf, translationOf}
 
 -- A block that a slot gave: its bytes are all there, it is short, and it lists one jump at most.
 pub record Sound (program : List ℕ) (slot : ℕ) (b : Block) : Type 0 where
@@ -210,8 +212,8 @@ module _ (x : Inputs) (few : length (x .program) ≤ longestProgram) where
   bound-finish (done bs) h = by (leb (size (whole (x .flags) bs)) (x .page)) refl (firstBad (slotsOf (x .program)) 0 bs)
     where
       by : (t : Bool) → leb (size (whole (x .flags) bs)) (x .page) ≡ t → (b : Bad) → Bound x (pick t (unlessBad b (accepted (x .flags) bs)) (no (Refusal.NoRoom (record { number = slotsOf (x .program) }))))
-      by true e nowhere = bound-blocks bs h (leb→le _ _ (true-T _ e))
-      by true e (bad s) = tt
+      by true e Nowhere = bound-blocks bs h (leb→le _ _ (true-T _ e))
+      by true e (At s) = tt
       by false e b = tt
 
 pub bounds : (x : Inputs) → Bound x (translationOf x)

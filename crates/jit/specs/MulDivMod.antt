@@ -47,24 +47,32 @@ operate Mul w = op (unary MUL w RCX) ∷ []
 operate Div w = op (alu XOR W32 RDX RDX) ∷ op (unary DIV w RCX) ∷ []
 operate Mod w = op (alu XOR W32 RDX RDX) ∷ op (unary DIV w RCX) ∷ []
 
--- the result, RAX or for MOD RDX, goes to dst as RAX and RDX come back
+-- the result is in RAX, for MOD in RDX
 abbrev pub fromRax : MulOp → Bool
 fromRax Mul = true
 fromRax Div = true
 fromRax Mod = false
 
-abbrev pub restore : MulOp → (dst : ℕ) → Code
-restore o dst =
-    unlessIs dst RDX (when (not (fromRax o)) (op (alu MOV W64 RDX dst) ∷ []) ++ (op (pop RDX) ∷ []))
-    ++ unlessIs dst RAX (when (fromRax o) (op (alu MOV W64 RAX dst) ∷ []) ++ (op (pop RAX) ∷ []))
+-- a register that is in use, r, is saved and comes back, unless it is dst itself; where it holds the result, dst gets that first
+abbrev pub saved : (dst r : ℕ) → Code
+saved dst r = unlessIs dst r (op (push r) ∷ [])
 
--- the second operand, which `operand` brings to RCX, with RAX and RDX saved unless they are dst
+abbrev pub restored : (dst r : ℕ) → (result : Bool) → Code
+restored dst r result = unlessIs dst r (when result (op (alu MOV W64 r dst) ∷ []) ++ (op (pop r) ∷ []))
+
+abbrev pub saves : (dst : ℕ) → Code
+saves dst = saved dst RAX ++ saved dst RDX
+
+abbrev pub restores : MulOp → (dst : ℕ) → Code
+restores o dst = restored dst RDX (not (fromRax o)) ++ restored dst RAX (fromRax o)
+
+-- the operation on dst, once the second operand is in RCX
+abbrev pub operated : MulOp → Width → (dst : ℕ) → Code
+operated o w dst = op (alu MOV W64 dst RAX) ∷ (operate o w ++ restores o dst)
+
+-- `operand` brings the second operand to RCX
 abbrev pub computed : MulOp → Width → (operand : Code) → (dst : ℕ) → Code
-computed o w operand dst =
-    unlessIs dst RAX (op (push RAX) ∷ [])
-    ++ (unlessIs dst RDX (op (push RDX) ∷ [])
-    ++ (operand
-    ++ (op (alu MOV W64 dst RAX) ∷ (operate o w ++ restore o dst))))
+computed o w operand dst = saves dst ++ (operand ++ operated o w dst)
 
 abbrev pub mulDivModImm : MulOp → Width → (dst imm : ℕ) → Code
 mulDivModImm o w dst imm = pick (eqb imm 0) (byZero o dst) (computed o w (op (aluImm MOV W64 RCX imm) ∷ []) dst)

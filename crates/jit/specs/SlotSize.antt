@@ -22,7 +22,7 @@ use Rattle.x86.specs.Instr.{Instr, Plain, op, push, pop, alu, aluImm, unary, mo
 use Rattle.x86.specs.Encode.{rex, len, jumpOpcode}
 use Rattle.x86.specs.Lengths.{most, rex-most, plain-most}
 use Rattle.x86.specs.Code.{Dest, to, near, size, size-append, targetsOf, targets-append}
-use Rattle.jit.specs.MulDivMod.{Code, when, unlessIs, byZero, divByZero, tested, guard, operate, fromRax, restore, computed, mulDivModImm, mulDivModReg}
+use Rattle.jit.specs.MulDivMod.{Code, when, unlessIs, byZero, divByZero, tested, guard, operate, fromRax, saved, restored, saves, restores, operated, computed, mulDivModImm, mulDivModReg}
 use Rattle.jit.specs.Slots.{regOf, targetOf, shiftOf, testOf, loadImm, swap, helperCall, localCall, slotCode}
 
 -- the sum of what each instruction can get, where it is a number
@@ -68,35 +68,31 @@ operate-most Mul w = omega (arith, plain-most (unary MUL w RCX))
 operate-most Div w = omega (arith, plain-most (unary DIV w RCX))
 operate-most Mod w = omega (arith, plain-most (unary DIV w RCX))
 
-restore-most : (o : MulOp) (d : ℕ) → size (restore o d) ≤ 5
+saved-most : (d r : ℕ) → len {D = Dest} (op (push r)) ≤ 1 → size (saved d r) ≤ 1
+saved-most d r h = unless d r (op (push r) ∷ []) (omega (arith, h))
+
+restored-most : (d r : ℕ) (b : Bool) {k : ℕ} → size (when b (op (alu MOV W64 r d) ∷ []) ++ (op (pop r) ∷ [])) ≤ k → size (restored d r b) ≤ k
+restored-most d r b h = unless d r (when b (op (alu MOV W64 r d) ∷ []) ++ (op (pop r) ∷ [])) h
+
+restores-most : (o : MulOp) (d : ℕ) → size (restores o d) ≤ 5
 unfolding rex
-restore-most o d = by (fromRax o)
+restores-most o d = by (fromRax o)
   where
-    by : (b : Bool) → size
-        (unlessIs d RDX (when (not b) (op (alu MOV W64 RDX d) ∷ []) ++ (op (pop RDX) ∷ []))
-        ++ unlessIs d RAX (when b (op (alu MOV W64 RAX d) ∷ []) ++ (op (pop RAX) ∷ []))) ≤ 5
+    by : (b : Bool) → size (restored d RDX (not b) ++ restored d RAX b) ≤ 5
     by true =
-        both (unlessIs d RDX (op (pop RDX) ∷ [])) (unlessIs d RAX (op (alu MOV W64 RAX d) ∷ op (pop RAX) ∷ [])) {j = 1} {k = 4}
-        (unless d RDX (op (pop RDX) ∷ []) (omega arith))
-        (unless d RAX (op (alu MOV W64 RAX d) ∷ op (pop RAX) ∷ []) (omega (arith, plain-most (alu MOV W64 RAX d))))
+        both (restored d RDX false) (restored d RAX true) {j = 1} {k = 4} (restored-most d RDX false (omega arith))
+        (restored-most d RAX true (omega (arith, plain-most (alu MOV W64 RAX d))))
     by false =
-        both (unlessIs d RDX (op (alu MOV W64 RDX d) ∷ op (pop RDX) ∷ [])) (unlessIs d RAX (op (pop RAX) ∷ [])) {j = 4} {k = 1}
-        (unless d RDX (op (alu MOV W64 RDX d) ∷ op (pop RDX) ∷ []) (omega (arith, plain-most (alu MOV W64 RDX d))))
-        (unless d RAX (op (pop RAX) ∷ []) (omega arith))
+        both (restored d RDX true) (restored d RAX false) {j = 4} {k = 1} (restored-most d RDX true (omega (arith, plain-most (alu MOV W64 RDX d))))
+        (restored-most d RAX false (omega arith))
 
 computed-most : (o : MulOp) (w : Width) (operand : Code) (d : ℕ) {k : ℕ} → size operand ≤ k → size (computed o w operand d) ≤ k + 15
 unfolding rex
 computed-most o w operand d {k} h =
-    let tail = operate o w ++ restore o d in
-    let main = op (alu MOV W64 d RAX) ∷ tail in
-    let t : size main ≤ 13 = omega (arith, plain-most (alu MOV W64 d RAX), both (operate o w) (restore o d) (operate-most o w) (restore-most o d)) in
-    let p = unless d RAX (op (push RAX) ∷ []) {k = 1} (omega arith) in
-    let q = unless d RDX (op (push RDX) ∷ []) {k = 1} (omega arith) in
-    omega (
-      arith,
-      both (unlessIs d RAX (op (push RAX) ∷ [])) (unlessIs d RDX (op (push RDX) ∷ []) ++ (operand ++ main)) p
-          (both (unlessIs d RDX (op (push RDX) ∷ [])) (operand ++ main) q (both operand main h t)),
-    )
+    let t : size (operated o w d) ≤ 13 =
+    omega (arith, plain-most (alu MOV W64 d RAX), both (operate o w) (restores o d) (operate-most o w) (restores-most o d)) in
+    let s : size (saves d) ≤ 2 = both (saved d RAX) (saved d RDX) (saved-most d RAX (omega arith)) (saved-most d RDX (omega arith)) in
+    omega (arith, both (saves d) (operand ++ operated o w d) s (both operand (operated o w d) h t))
 
 guard-most : (o : MulOp) (slot : ℕ) (w : Width) (s d : ℕ) → size (guard o slot w s d) ≤ 24
 guard-most Mul slot w s d = omega arith
@@ -166,41 +162,46 @@ jumps-chosen false a b h g = g
 jumps-unless : (r s : ℕ) (c : Code) → jumpsIn c ≤ 0 → jumpsIn (unlessIs r s c) ≤ 0
 jumps-unless r s c h = jumps-chosen (eqb r s) [] c (omega arith) h
 
-restore-none : (o : MulOp) (d : ℕ) → jumpsIn (restore o d) ≤ 0
-restore-none o d = by (fromRax o)
+restores-none : (o : MulOp) (d : ℕ) → jumpsIn (restores o d) ≤ 0
+restores-none o d = by (fromRax o)
   where
-    by : (b : Bool) → jumpsIn
-        (unlessIs d RDX (when (not b) (op (alu MOV W64 RDX d) ∷ []) ++ (op (pop RDX) ∷ []))
-        ++ unlessIs d RAX (when b (op (alu MOV W64 RAX d) ∷ []) ++ (op (pop RAX) ∷ []))) ≤ 0
-    by true =
-        rw (jumps-both (unlessIs d RDX (op (pop RDX) ∷ [])) (unlessIs d RAX (op (alu MOV W64 RAX d) ∷ op (pop RAX) ∷ [])))
-        (omega (arith, jumps-unless d RDX (op (pop RDX) ∷ []) (omega arith), jumps-unless d RAX (op (alu MOV W64 RAX d) ∷ op (pop RAX) ∷ []) (omega arith)))
-    by false =
-        rw (jumps-both (unlessIs d RDX (op (alu MOV W64 RDX d) ∷ op (pop RDX) ∷ [])) (unlessIs d RAX (op (pop RAX) ∷ [])))
-        (omega (arith, jumps-unless d RDX (op (alu MOV W64 RDX d) ∷ op (pop RDX) ∷ []) (omega arith), jumps-unless d RAX (op (pop RAX) ∷ []) (omega arith)))
+    each : (r : ℕ) (b : Bool) → jumpsIn (restored d r b) ≤ 0
+    each r true = jumps-unless d r (op (alu MOV W64 r d) ∷ op (pop r) ∷ []) (omega arith)
+    each r false = jumps-unless d r (op (pop r) ∷ []) (omega arith)
+
+    by : (b : Bool) → jumpsIn (restored d RDX (not b) ++ restored d RAX b) ≤ 0
+    by b = rw (jumps-both (restored d RDX (not b)) (restored d RAX b)) (omega (arith, each RDX (not b), each RAX b))
 
 operate-none : (o : MulOp) (w : Width) → jumpsIn (operate o w) ≤ 0
 operate-none Mul w = omega arith
 operate-none Div w = omega arith
 operate-none Mod w = omega arith
 
-computed-none : (o : MulOp) (w : Width) (operand : Code) (d : ℕ) → jumpsIn operand ≤ 0 → jumpsIn (computed o w operand d) ≤ 0
+pub computed-none : (o : MulOp) (w : Width) (operand : Code) (d : ℕ) → jumpsIn operand ≤ 0 → jumpsIn (computed o w operand d) ≤ 0
 computed-none o w operand d h =
-    let main = op (alu MOV W64 d RAX) ∷ (operate o w ++ restore o d) in
-    let p = unlessIs d RAX (op (push RAX) ∷ []) in
-    let q = unlessIs d RDX (op (push RDX) ∷ []) in
-    rw (jumps-both p (q ++ (operand ++ main)), jumps-both q (operand ++ main), jumps-both operand main, jumps-both (operate o w) (restore o d))
-    (omega (arith, jumps-unless d RAX (op (push RAX) ∷ []) (omega arith), jumps-unless d RDX (op (push RDX) ∷ []) (omega arith), operate-none o w, restore-none o d))
+    rw (jumps-both (saves d) (operand ++ operated o w d), jumps-both operand (operated o w d), jumps-both (saved d RAX) (saved d RDX), jumps-both (operate o w) (restores o d))
+    (omega (arith, jumps-unless d RAX (op (push RAX) ∷ []) (omega arith), jumps-unless d RDX (op (push RDX) ∷ []) (omega arith), operate-none o w, restores-none o d))
 
 guard-jumps : (o : MulOp) (slot : ℕ) (w : Width) (s d : ℕ) → jumpsIn (guard o slot w s d) ≤ 1
 guard-jumps Mul slot w s d = omega arith
 guard-jumps Div slot w s d = omega arith
 guard-jumps Mod slot w s d = omega arith
 
-zero-none : (o : MulOp) (d : ℕ) → jumpsIn (byZero o d) ≤ 0
+pub zero-none : (o : MulOp) (d : ℕ) → jumpsIn (byZero o d) ≤ 0
 zero-none Mul d = omega arith
 zero-none Div d = omega arith
 zero-none Mod d = omega arith
+
+pub imm-jumps : (o : MulOp) (w : Width) (d i : ℕ) → length (targetsOf (mulDivModImm o w d i)) ≤ 0
+imm-jumps o w d i =
+    jumps-chosen (eqb i 0) (byZero o d) (computed o w (op (aluImm MOV W64 RCX i) ∷ []) d) (zero-none o d)
+    (computed-none o w (op (aluImm MOV W64 RCX i) ∷ []) d (omega arith))
+
+pub swap-jumps : (d bits : ℕ) → length (targetsOf (swap d bits)) ≤ 0
+swap-jumps d bits =
+    jumps-chosen (eqb bits 16) (op (rol16 d 8) ∷ op (aluImm AND W32 d 0xffff) ∷ []) (pick (eqb bits 32) (op (bswap W32 d) ∷ []) (op (bswap W64 d) ∷ []))
+    (omega arith)
+    (jumps-chosen (eqb bits 32) (op (bswap W32 d) ∷ []) (op (bswap W64 d) ∷ []) (omega arith) (omega arith))
 
 pub slot-jumps : (k : Kind) (slot : ℕ) (i : Insn) (value : ℕ) → length (targetsOf (slotCode k slot i value)) ≤ 1
 slot-jumps (LdAbs z) slot i value = omega arith
@@ -214,10 +215,7 @@ slot-jumps (Alu o w Reg) slot i value = omega arith
 slot-jumps (Shift o w Imm) slot i value = omega arith
 slot-jumps (Shift o w Reg) slot i value = omega arith
 slot-jumps (Neg w) slot i value = omega arith
-slot-jumps (MulDivMod o w Imm) slot i value =
-    jumps-chosen (eqb (i .imm) 0) (byZero o (regOf (i .dst))) (computed o w (op (aluImm MOV W64 RCX (i .imm)) ∷ []) (regOf (i .dst)))
-    (omega (arith, zero-none o (regOf (i .dst))))
-    (omega (arith, computed-none o w (op (aluImm MOV W64 RCX (i .imm)) ∷ []) (regOf (i .dst)) (omega arith)))
+slot-jumps (MulDivMod o w Imm) slot i value = omega (arith, imm-jumps o w (regOf (i .dst)) (i .imm))
 slot-jumps (MulDivMod o w Reg) slot i value =
     let s = regOf (i .src) in
     let d = regOf (i .dst) in
@@ -226,10 +224,7 @@ slot-jumps (MulDivMod o w Reg) slot i value =
 slot-jumps (Mov w Imm) slot i value = omega arith
 slot-jumps (Mov w Reg) slot i value = omega arith
 slot-jumps Le slot i value = omega arith
-slot-jumps Be slot i value =
-    let d = regOf (i .dst) in
-    jumps-chosen (eqb (i .imm) 16) (op (rol16 d 8) ∷ op (aluImm AND W32 d 0xffff) ∷ []) (pick (eqb (i .imm) 32) (op (bswap W32 d) ∷ []) (op (bswap W64 d) ∷ [])) (omega arith)
-    (jumps-chosen (eqb (i .imm) 32) (op (bswap W32 d) ∷ []) (op (bswap W64 d) ∷ []) (omega arith) (omega arith))
+slot-jumps Be slot i value = omega (arith, swap-jumps (regOf (i .dst)) (i .imm))
 slot-jumps Ja slot i value = omega arith
 slot-jumps (Jump c w Imm) slot i value = omega arith
 slot-jumps (Jump c w Reg) slot i value = omega arith

@@ -20,8 +20,10 @@ use Rattle.ebpf.specs.declared.kind.Lookup.{Lookup}
 use Rattle.ebpf.specs.declared.kind.Lookup.the-variants.{Known, Unimplemented, Unknown}
 use Rattle.jit.specs.declared.Flags.{Flags}
 use Rattle.jit.specs.declared.Helper.{Helper}
-use Rattle.jit.specs.declared.Helper.the-variants.{At, Missing}
+use Rattle.jit.specs.declared.Helper.the-variants.{Address, Missing}
 use Rattle.jit.specs.declared.Refusal.{Refusal}
+use Rattle.jit.specs.declared.Bad.{Bad}
+use Rattle.jit.specs.declared.Bad.the-variants.{Nowhere, At}
 use Rattle.x86.specs.Code.{size, targetsOf, fieldsOf, codeOf}
 use Rattle.jit.specs.Limits.{shortestPage, longestPage, longestProgram, mostHelpers, anchor}
 use Rattle.jit.specs.MulDivMod.{Code}
@@ -48,7 +50,7 @@ at s = record { number = s }
 
 -- the address that is listed beside an id
 abbrev pub found : Bool → ℕ → Helper → Helper
-found true a h = At a
+found true a h = Address a
 found false a h = h
 
 unfoldable pub helperOf : (ids addresses : List ℕ) → (id : ℕ) → Helper
@@ -96,7 +98,7 @@ abbrev pub swapBits : ℕ → Bool
 swapBits bits = eqb bits 16 || (eqb bits 32 || eqb bits 64)
 
 abbrev pub helperValue : ℕ → Helper → Operand
-helperValue slot (At a) = has a
+helperValue slot (Address a) = has a
 helperValue slot Missing = lacks (Refusal.UnknownHelper (at slot))
 
 -- src 0 is a helper by its id, src 1 a call within the program
@@ -197,20 +199,16 @@ starts place (b ∷ bs) = entries place (b .wide) ++ starts (place + size (b .co
 unfoldable pub goodTarget : (n target : ℕ) → Bool
 goodTarget n t = leb t n || eqb t anchor
 
-pub data Bad : Type 0 where
-  nowhere : Bad
-  bad : (slot : ℕ) → Bad
-
 abbrev pub orElse : Bad → Bad → Bad
-orElse nowhere b = b
-orElse (bad s) b = bad s
+orElse Nowhere b = b
+orElse (At s) b = At s
 
 abbrev pub badIn : (n slot : ℕ) → (targets : List ℕ) → Bad
-badIn n slot [] = nowhere
-badIn n slot (t ∷ ts) = pick (goodTarget n t) (badIn n slot ts) (bad slot)
+badIn n slot [] = Nowhere
+badIn n slot (t ∷ ts) = pick (goodTarget n t) (badIn n slot ts) (At (at slot))
 
 abbrev pub firstBad : (n slot : ℕ) → List Block → Bad
-firstBad n slot [] = nowhere
+firstBad n slot [] = Nowhere
 firstBad n slot (b ∷ bs) = orElse (badIn n slot (targetsOf (b .code))) (firstBad n (slot + slotsWide (b .wide)) bs)
 
 -- The finished code, the locations 0 to n, and the fields and targets of the jumps in the order emitted, the prologue's first.
@@ -237,8 +235,8 @@ accepted f bs =
     yes (codeOf (placeOf (locations f bs) (exitOf f bs)) (whole f bs)) (locations f bs) (fieldsOf 0 (whole f bs)) (targetsOf (whole f bs))
 
 abbrev pub unlessBad : Bad → Outcome → Outcome
-unlessBad nowhere o = o
-unlessBad (bad s) o = no (Refusal.BadTarget (at s))
+unlessBad Nowhere o = o
+unlessBad (At s) o = no (Refusal.BadTarget s)
 
 abbrev pub finish : Flags → (n page : ℕ) → Walk → Outcome
 finish f n page (refused r) = no r

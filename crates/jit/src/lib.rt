@@ -39,6 +39,12 @@ pub enum Refusal {
 
 // A helper's address, where its id is listed.
 pub enum Helper {
-    At(u64),
+    Address(u64),
     Missing,
+}
+
+// The slot of the first jump that goes nowhere, if there is one.
+pub enum Bad {
+    Nowhere,
+    At(Slot),
 }

@@ -5,7 +5,5 @@ pub mod Decode
 pub mod RoundTrip
 pub mod Lengths
 pub mod Code
-pub mod Wrote
-pub mod Words
 pub mod Fill
 pub mod Displacement

@@ -1,0 +1,50 @@
+use native.Mathlib.Omega.{arith}
+use mathlib.Core.List.{_∷_}
+use Rattle.base.specs.Bytes.{le32}
+use mathlib.Core.Path.{refl, ap, _∙_}
+use Rattle.emit.specs.Words.{byte, rexed, coded, coded-then}
+use Rattle.emit.specs.Wrote.{same, then}
+use borrow.Author.Needs.{needs}
+use Rattle.emit.proofs.alu.emit_alu_imm32.Statement.{statement}
+use Rattle.emit.proofs.alu.emit_alu_imm32.Tie as tie
+
+modrm-requires : tie.Need-modrm-requires
+modrm-requires c κs = search needs
+
+mul-rest : tie.Need-mul-rest
+mul-rest c = search needs
+
+add-rest : tie.Need-add-rest
+add-rest c = search needs
+
+mul-rest-2 : tie.Need-mul-rest-2
+mul-rest-2 c = search needs
+
+add-rest-2 : tie.Need-add-rest-2
+add-rest-2 c = search needs
+
+wide-requires : tie.Need-wide-requires
+wide-requires c κs = search needs
+
+emit-rexed-requires : tie.Need-emit-rexed-requires
+emit-rexed-requires c κs = search needs
+
+same-length : tie.Need-same-length
+same-length c = search needs
+
+returns : tie.Need-returns
+returns c = same (c .before .before .emit-rexed .ensures) (rexed _ _ (c .before .before .before .wide .ensures .0) (coded-then 4 (c .before .before .before .before .before .before .before .args .op) (c .before .before .before .before .before .modrm .result) (c .before .before .before .before .before .before .before .args .imm) (c .before .before .before .before .before .modrm .ensures .0) (search needs) (search needs)))
+
+pub emit-alu-imm32-spec : {M : Type 1} → statement M
+emit-alu-imm32-spec =
+    tie.close
+    (tie.spec
+    modrm-requires
+    mul-rest
+    add-rest
+    mul-rest-2
+    add-rest-2
+    wide-requires
+    emit-rexed-requires
+    same-length
+    returns)

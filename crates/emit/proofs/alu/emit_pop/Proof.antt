@@ -1,0 +1,28 @@
+use native.Mathlib.Omega.{arith}
+use mathlib.Core.List.{_∷_}
+use Rattle.base.specs.Bytes.{le32}
+use mathlib.Core.Path.{refl, ap, _∙_}
+use Rattle.emit.specs.Words.{byte, rexed, coded, coded-then}
+use Rattle.emit.specs.Wrote.{same, then}
+use borrow.Author.Needs.{needs}
+use Rattle.emit.proofs.alu.emit_pop.Statement.{statement}
+use Rattle.emit.proofs.alu.emit_pop.Tie as tie
+
+add-emit-rexed : tie.Need-add-emit-rexed
+add-emit-rexed c = search needs
+
+cast-emit-rexed : tie.Need-cast-emit-rexed
+cast-emit-rexed c = search needs
+
+emit-rexed-requires : tie.Need-emit-rexed-requires
+emit-rexed-requires c κs = search needs
+
+same-length : tie.Need-same-length
+same-length c = search needs
+
+returns : tie.Need-returns
+returns c = same (c .before .before .emit-rexed .ensures) (rexed _ _ refl (byte _ (search needs)))
+
+pub emit-pop-spec : {M : Type 1} → statement M
+emit-pop-spec =
+    tie.close (tie.spec add-emit-rexed cast-emit-rexed emit-rexed-requires same-length returns)

@@ -1,0 +1,43 @@
+use Rattle.x86.specs.Code.{to, blanks-append, length-blanks, size-append}
+use Rattle.x86.specs.Instr.{op, jmp, jcc, call, jump}
+use mathlib.Core.List.{[], _∷_, _++_}
+use Rattle.slots.specs.Emits.{jumped, plainly, emits-then}
+use mathlib.Core.Path.{refl}
+use native.Mathlib.Omega.{arith}
+use Rattle.emit.specs.Wrote.{same, then, last, nothing}
+use borrow.Author.Needs.{needs}
+use Rattle.slots.proofs.jump.emit_ja.Statement.{statement}
+use Rattle.slots.proofs.jump.emit_ja.Tie as tie
+
+target-of-requires : tie.Need-target-of-requires
+target-of-requires c κs = search needs
+
+emit-jmp-requires : tie.Need-emit-jmp-requires
+emit-jmp-requires c κs = search needs
+
+record-jump-requires : tie.Need-record-jump-requires
+record-jump-requires c κs = search needs
+
+same-length : tie.Need-same-length
+same-length c = search needs
+
+same-length-2 : tie.Need-same-length-2
+same-length-2 c = search needs
+
+same-length-3 : tie.Need-same-length-3
+same-length-3 c = search needs
+
+returns : tie.Need-returns
+returns c = rw (← c .before .before .before .before .before .before .before .before .before .before .before .target-of .ensures) (jumped [] jmp refl (last (c .before .before .before .before .before .before .before .before .before .emit-jmp .ensures)) (c .before .before .before .before .record-jump .ensures))
+
+pub emit-ja-spec : {M : Type 1} → statement M
+emit-ja-spec =
+    tie.close
+    (tie.spec
+    target-of-requires
+    emit-jmp-requires
+    record-jump-requires
+    same-length
+    same-length-2
+    same-length-3
+    returns)

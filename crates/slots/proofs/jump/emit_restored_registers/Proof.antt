@@ -1,0 +1,35 @@
+use mathlib.Core.Path.{refl, sym, _∙_}
+use native.Mathlib.Omega.{arith}
+use Rattle.emit.specs.Wrote.{same, then, last, nothing}
+use borrow.Author.Needs.{needs}
+use Rattle.slots.proofs.jump.emit_restored_registers.Statement.{statement}
+use Rattle.slots.proofs.jump.emit_restored_registers.Tie as tie
+
+emit-pop-requires : tie.Need-emit-pop-requires
+emit-pop-requires c κs = search needs
+
+emit-pop-requires-2 : tie.Need-emit-pop-requires-2
+emit-pop-requires-2 c κs = search needs
+
+emit-pop-requires-3 : tie.Need-emit-pop-requires-3
+emit-pop-requires-3 c κs = search needs
+
+emit-pop-requires-4 : tie.Need-emit-pop-requires-4
+emit-pop-requires-4 c κs = search needs
+
+same-length : tie.Need-same-length
+same-length c = search needs
+
+returns : tie.Need-returns
+returns c = then (c .before .before .before .before .before .before .before .before .before .before .before .before .before .before .emit-pop .ensures) (then (c .before .before .before .before .before .before .before .before .before .before .emit-pop2 .ensures) (then (c .before .before .before .before .before .before .emit-pop3 .ensures) (last (c .before .before .emit-pop4 .ensures))))
+
+pub emit-restored-registers-spec : {M : Type 1} → statement M
+emit-restored-registers-spec =
+    tie.close
+    (tie.spec
+    emit-pop-requires
+    emit-pop-requires-2
+    emit-pop-requires-3
+    emit-pop-requires-4
+    same-length
+    returns)

@@ -1,0 +1,34 @@
+use native.Mathlib.Omega.{arith}
+use Rattle.emit.specs.Wrote.{same, then, last}
+use borrow.Author.Needs.{needs}
+use Rattle.slots.proofs.load.emit_ld_ind.Statement.{statement}
+use Rattle.slots.proofs.load.emit_ld_ind.Tie as tie
+
+map-register-requires : tie.Need-map-register-requires
+map-register-requires c κs = search needs
+
+emit-alu-requires : tie.Need-emit-alu-requires
+emit-alu-requires c κs = search needs
+
+emit-alu-requires-2 : tie.Need-emit-alu-requires-2
+emit-alu-requires-2 c κs = search needs
+
+emit-load-requires : tie.Need-emit-load-requires
+emit-load-requires c κs = let room = rw (← c .before .before .before .before .before .before .before .before .before .map-register .ensures .0) at (c .before .before .before .before .before .before .before .before .before .before .before .pre .0) in (omega (arith, room, c .before .before .before .before .before .before .before .emit-alu .ensures .next, c .before .before .before .emit-alu2 .ensures .next), search needs)
+
+same-length : tie.Need-same-length
+same-length c = search needs
+
+returns : tie.Need-returns
+returns c = rw (← c .before .before .before .before .before .before .before .before .before .before .before .before .map-register .ensures .0) (then (c .before .before .before .before .before .before .before .before .before .before .emit-alu .ensures) (then (c .before .before .before .before .before .before .emit-alu2 .ensures) (last (c .before .before .emit-load .ensures))))
+
+pub emit-ld-ind-spec : {M : Type 1} → statement M
+emit-ld-ind-spec =
+    tie.close
+    (tie.spec
+    map-register-requires
+    emit-alu-requires
+    emit-alu-requires-2
+    emit-load-requires
+    same-length
+    returns)

@@ -1,0 +1,43 @@
+use Rattle.slots.specs.Codes.{load-short, load-long}
+use native.Mathlib.Omega.{arith}
+use Rattle.emit.specs.Wrote.{same, then, last}
+use borrow.Author.Needs.{needs}
+use Rattle.slots.proofs.load.emit_load_imm.Statement.{statement}
+use Rattle.slots.proofs.load.emit_load_imm.Tie as tie
+
+wrapping-add-u64-requires : tie.Need-wrapping-add-u64-requires
+wrapping-add-u64-requires c κs = search needs
+
+cast-emit-alu-imm32 : tie.Need-cast-emit-alu-imm32
+cast-emit-alu-imm32 c = search needs
+
+emit-alu-imm32-requires : tie.Need-emit-alu-imm32-requires
+emit-alu-imm32-requires c κs = search needs
+
+same-length : tie.Need-same-length
+same-length c = search needs
+
+returns : tie.Need-returns
+returns c = rw (← load-short (c .before .before .before .before .before .before .before .args .dst) (c .before .before .before .before .before .before .before .args .value) (rw (← c .before .before .before .before .before .wrapping-add-u64 .ensures) (c .before .before .before .before .if1 .taken))) (c .before .before .emit-alu-imm32 .ensures)
+
+emit-movabs-requires : tie.Need-emit-movabs-requires
+emit-movabs-requires c κs = search needs
+
+same-length-2 : tie.Need-same-length-2
+same-length-2 c = search needs
+
+returns-2 : tie.Need-returns-2
+returns-2 c = rw (← load-long (c .before .before .before .before .before .before .before .args .dst) (c .before .before .before .before .before .before .before .args .value) (rw (← c .before .before .before .before .before .wrapping-add-u64 .ensures) (c .before .before .before .before .if1 .left))) (c .before .before .emit-movabs .ensures)
+
+pub emit-load-imm-spec : {M : Type 1} → statement M
+emit-load-imm-spec =
+    tie.close
+    (tie.spec
+    wrapping-add-u64-requires
+    cast-emit-alu-imm32
+    emit-alu-imm32-requires
+    same-length
+    returns
+    emit-movabs-requires
+    same-length-2
+    returns-2)

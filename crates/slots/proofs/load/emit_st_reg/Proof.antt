@@ -1,0 +1,30 @@
+use native.Mathlib.Omega.{arith}
+use Rattle.emit.specs.Wrote.{same, then, last}
+use borrow.Author.Needs.{needs}
+use Rattle.slots.proofs.load.emit_st_reg.Statement.{statement}
+use Rattle.slots.proofs.load.emit_st_reg.Tie as tie
+
+map-register-requires : tie.Need-map-register-requires
+map-register-requires c κs = search needs
+
+map-register-requires-2 : tie.Need-map-register-requires-2
+map-register-requires-2 c κs = search needs
+
+emit-store-requires : tie.Need-emit-store-requires
+emit-store-requires c κs = search needs
+
+same-length : tie.Need-same-length
+same-length c = search needs
+
+returns : tie.Need-returns
+returns c = rw (← c .before .before .before .before .before .map-register .ensures .0, ← c .before .before .before .before .map-register2 .ensures .0) (last (c .before .before .emit-store .ensures))
+
+pub emit-st-reg-spec : {M : Type 1} → statement M
+emit-st-reg-spec =
+    tie.close
+    (tie.spec
+    map-register-requires
+    map-register-requires-2
+    emit-store-requires
+    same-length
+    returns)

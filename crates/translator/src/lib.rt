@@ -1,0 +1,2 @@
+// The translation: every slot read and judged, the frame round the slots, the measuring pass, the writing pass, the jumps.
+pub mod step;
