@@ -11,7 +11,7 @@ ghost use Rattle.emit.specs.Wrote.{Wrote};
 use base::Position;
 
 // Eight bytes, lowest first.
-fn store8(code: &mut [u8], at: usize, x: u64)
+pub fn store8(code: &mut [u8], at: usize, x: u64)
     requires { ⌜ at + 8 ≤ length (now code) ⌝ }
     ensures { λ _. ⌜ now (code .exit) ≡ sets (now (code .entry)) at (le64 x) ⌝ }
 {

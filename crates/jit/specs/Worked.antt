@@ -11,7 +11,7 @@ use Rattle.ebpf.specs.Opcode.{kindOf}
 use Rattle.x86.specs.Encode.{rex, modrm, memory, bare, short}
 use Rattle.x86.specs.Code.{blanks}
 use Rattle.jit.specs.Slots.{regOf, targetOf, loadImm}
-use Rattle.jit.specs.Frame.{saves, argument, enter, prologue, epilogue}
+use Rattle.jit.specs.Frame.{saves, packetStart, packetEnd, argument, enter, prologue, epilogue}
 use Rattle.jit.specs.Translation.{Inputs, Walk, refused, done, flat, walkOf, rest, stepAt, helperOf, goodTarget, Outcome, no, yes, sizesOf, translationOf}
 
 -- what a line of the document speaks of
@@ -98,5 +98,5 @@ table =
     line (slot 0x85 0x10 0 0 0x40 0x42 0x0f 0x00) (field 1) (0x07 ∷ 0x00 ∷ 0x00 ∷ 0x00 ∷ []) ∷ []
 
 pub worked : map given table ≡ map (λ (x : Line). x .bytes) table
-unfolding table translationOf sizesOf rest stepAt helperOf goodTarget readAt insnAt kindOf regOf targetOf loadImm saves argument enter prologue epilogue rex modrm memory bare short
+unfolding table translationOf sizesOf rest stepAt helperOf goodTarget readAt insnAt kindOf regOf targetOf loadImm saves packetStart packetEnd argument enter prologue epilogue rex modrm memory bare short
 worked = refl

@@ -21,7 +21,7 @@ pub record Put (l l′ : List ℕ) (k r : ℕ) (ys : List ℕ) : Type 0 where
 pub put-none : {l : List ℕ} {k : ℕ} → Put l l k k []
 put-none {k = k} = record { next = omega arith; is = refl }
 
-sets-append : (l : List ℕ) (k : ℕ) (xs ys : List ℕ) → sets (sets l k xs) (k + length xs) ys ≡ sets l k (xs ++ ys)
+pub sets-append : (l : List ℕ) (k : ℕ) (xs ys : List ℕ) → sets (sets l k xs) (k + length xs) ys ≡ sets l k (xs ++ ys)
 sets-append l k [] ys = ap (λ (n : ℕ). sets l n ys) (add-zero k)
 sets-append l k (a ∷ xs) ys =
     ap (λ (n : ℕ). sets (sets l k (a ∷ xs)) n ys) (add-suc k (length xs) ∙ sym (suc-add k (length xs))) ∙ sets-append (set l k a) (suc k) xs ys

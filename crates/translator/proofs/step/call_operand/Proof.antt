@@ -3,35 +3,25 @@ use borrow.Author.Tests.{eq-eqb, ne-eqb, le-leb, lt-leb}
 use borrow.Author.Needs.{needs}
 use Rattle.translator.proofs.step.call_operand.Statement.{statement}
 use Rattle.translator.proofs.step.call_operand.Tie as tie
-use Rattle.translator.proofs.step.call_operand.Reads as reads
-use Rattle.translator.proofs.step.call_operand.Lts as lts
-use Rattle.translator.proofs.step.helper_of.Reads as helper-of-reads
 
--- src/step.rt:74:40
 helper-of-requires : tie.Need-helper-of-requires
 helper-of-requires c κs = search needs
 
--- src/step.rt:74:29
 enum-known-address : tie.Need-enum-known-address
 enum-known-address c = search needs
 
--- src/step.rt:75:35
 enum-told : tie.Need-enum-told
 enum-told c = search needs
 
--- src/step.rt:75:13
 returns : tie.Need-returns
 returns c = rw (eq-eqb _ _ (c .before .before .before .if1 .taken), ← c .before .before .helper-of .ensures, c .enum-told .given .1)
 
--- src/step.rt:77:9
 returns-2 : tie.Need-returns-2
 returns-2 c = rw (eq-eqb _ _ (c .before .before .before .before .if1 .taken), ← c .before .before .before .helper-of .ensures, c .before .address .given .1)
 
--- src/step.rt:80:9
 returns-3 : tie.Need-returns-3
 returns-3 c = rw (ne-eqb _ _ (c .before .before .if1 .left), eq-eqb _ _ (c .if2 .taken))
 
--- src/step.rt:69:1
 returns-4 : tie.Need-returns-4
 returns-4 c = rw (ne-eqb _ _ (c .before .before .if1 .left), ne-eqb _ _ (c .if2 .left))
 

@@ -7,8 +7,6 @@ use Prim.Native.Nat.{_≤_, _-_, _+_}
 use borrow.Author.Needs.{needs}
 use Rattle.translator.proofs.step.helper_of.Statement.{statement}
 use Rattle.translator.proofs.step.helper_of.Tie as tie
-use Rattle.translator.proofs.step.helper_of.Reads as reads
-use Rattle.translator.proofs.step.helper_of.Lts as lts
 
 abbrev Inv-loop : tie.InvT-loop
 Inv-loop ids addresses id k₀ k = (k ≤ length ids) × (helperOf ids addresses id ≡ helperOf (drop k ids) (drop k addresses) id)
@@ -16,43 +14,33 @@ Inv-loop ids addresses id k₀ k = (k ≤ length ids) × (helperOf ids addresses
 abbrev μ-loop : tie.MeasureT-loop
 μ-loop ids addresses id k₀ k = length ids - k
 
--- src/step.rt:34:5
 loop-holds : tie.Need-loop-holds Inv-loop μ-loop
 loop-holds c = (search needs, refl)
 
--- src/step.rt:35:12
 mul-if1 : tie.Need-mul-if1 Inv-loop μ-loop
 mul-if1 c = search needs
 
--- src/step.rt:35:12
 shared-slice-read-if1 : tie.Need-shared-slice-read-if1 Inv-loop μ-loop
 shared-slice-read-if1 c = search needs
 
--- src/step.rt:36:36
 mul-t9 : tie.Need-mul-t9 Inv-loop μ-loop
 mul-t9 c = search needs
 
--- src/step.rt:36:36
 shared-slice-read-t11 : tie.Need-shared-slice-read-t11 Inv-loop μ-loop
 shared-slice-read-t11 c = omega (arith, c .before .before .before .before .before .pre)
 
--- src/step.rt:36:13
 returns : tie.Need-returns Inv-loop μ-loop
 returns c = sym (c .before .before .before .before .loop .inv .1 ∙ search-hit _ _ _ (c .before .before .before .before .loop .k) (search needs) (omega (arith, c .before .before .before .before .before .pre)) (c .before .if1 .taken))
 
--- src/step.rt:38:9
 add-k : tie.Need-add-k Inv-loop μ-loop
 add-k c = search needs
 
--- src/step.rt:34:5
 loop-less : tie.Need-loop-less Inv-loop μ-loop
 loop-less c = search needs
 
--- src/step.rt:34:5
 loop-again : tie.Need-loop-again Inv-loop μ-loop
 loop-again c = (search needs, c .before .before .before .loop .inv .1 ∙ search-on _ _ _ (c .before .before .before .loop .k) (search needs) (omega (arith, c .before .before .before .before .pre)) (c .if1 .left))
 
--- src/step.rt:29:1
 returns-2 : tie.Need-returns-2 Inv-loop μ-loop
 returns-2 c = sym (c .before .loop .inv .1 ∙ search-end _ _ _ (c .before .loop .k) (search needs))
 

@@ -1,18 +1,13 @@
 use borrow.Author.Tests.{eq-eqb, ne-eqb}
 use Rattle.translator.proofs.step.swap_bits.Statement.{statement}
 use Rattle.translator.proofs.step.swap_bits.Tie as tie
-use Rattle.translator.proofs.step.swap_bits.Reads as reads
-use Rattle.translator.proofs.step.swap_bits.Lts as lts
 
--- src/step.rt:47:9
 returns : tie.Need-returns
 returns c = simp (eq-eqb _ _ (c .if1 .taken))
 
--- src/step.rt:50:9
 returns-2 : tie.Need-returns-2
 returns-2 c = simp (ne-eqb _ _ (c .before .if1 .left), eq-eqb _ _ (c .if2 .taken))
 
--- src/step.rt:43:1
 returns-3 : tie.Need-returns-3
 returns-3 c = simp (ne-eqb _ _ (c .before .if1 .left), ne-eqb _ _ (c .if2 .left))
 

@@ -2,19 +2,13 @@ use mathlib.Core.Path.{sym, _∙_}
 use borrow.Author.Needs.{needs}
 use Rattle.translator.proofs.step.swap_operand.Statement.{statement}
 use Rattle.translator.proofs.step.swap_operand.Tie as tie
-use Rattle.translator.proofs.step.swap_operand.Reads as reads
-use Rattle.translator.proofs.step.swap_operand.Lts as lts
-use Rattle.translator.proofs.step.swap_bits.Reads as swap-bits-reads
 
--- src/step.rt:82:8
 swap-bits-requires : tie.Need-swap-bits-requires
 swap-bits-requires c κs = search needs
 
--- src/step.rt:83:9
 returns : tie.Need-returns
 returns c = rw (← c .before .swap-bits .ensures, c .if1 .taken)
 
--- src/step.rt:79:1
 returns-2 : tie.Need-returns-2
 returns-2 c = rw (← c .before .swap-bits .ensures, c .if1 .left)
 

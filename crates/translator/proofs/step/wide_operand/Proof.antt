@@ -1,47 +1,34 @@
 use borrow.Author.Needs.{needs}
 use Rattle.translator.proofs.step.wide_operand.Statement.{statement}
 use Rattle.translator.proofs.step.wide_operand.Tie as tie
-use Rattle.translator.proofs.step.wide_operand.Reads as reads
-use Rattle.translator.proofs.step.wide_operand.Lts as lts
-use Rattle.ebpf.proofs.insn.get_insn.Reads as get-insn-reads
 
--- src/step.rt:55:17
 add-t6 : tie.Need-add-t6
 add-t6 c = search needs
 
--- src/step.rt:57:31
 get-insn-requires : tie.Need-get-insn-requires
 get-insn-requires c κs = search needs
 
--- src/step.rt:57:21
 enum-known-second : tie.Need-enum-known-second
 enum-known-second c = search needs
 
--- src/step.rt:58:31
 enum-told : tie.Need-enum-told
 enum-told c = search needs
 
--- src/step.rt:58:9
 returns : tie.Need-returns
 returns c = rw (← c .before .before .get-insn .ensures, c .enum-told .given .1)
 
--- src/step.rt:60:18
 cast-t9 : tie.Need-cast-t9
 cast-t9 c = search needs
 
--- src/step.rt:60:50
 cast-t10 : tie.Need-cast-t10
 cast-t10 c = search needs
 
--- src/step.rt:60:33
 mul-t11 : tie.Need-mul-t11
 mul-t11 c = search needs
 
--- src/step.rt:60:18
 add-t12 : tie.Need-add-t12
 add-t12 c = search needs
 
--- src/step.rt:50:1
 returns-2 : tie.Need-returns-2
 returns-2 c = rw (← c .before .before .before .before .before .get-insn .ensures, c .before .before .before .second .given .1)
 
