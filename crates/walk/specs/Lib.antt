@@ -1,0 +1,4 @@
+pub mod Steps
+pub mod Sofar
+pub mod Measures
+pub mod Writes

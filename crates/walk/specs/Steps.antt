@@ -1,0 +1,74 @@
+-- A slot that is read and judged: what the code answers against what the definition says.
+-- Assumes nothing.
+use mathlib.Core.Path.{_≡_, _∙_, refl, ap, sym}
+use mathlib.Core.Bool.{Bool, true, false, _&&_}
+use mathlib.Core.List.{List, [], _∷_}
+use Prim.Native.Nat.{ℕ, suc, _+_, _<_, _≤_, _^_}
+use native.Mathlib.Omega.{arith}
+use native.Mathlib.Numerals.{add-one}
+use lib.Dec.{leb, eqb}
+use lib.ListN.{length, getD, drop, drop-of-length-le}
+use lib.Seq.{drop-cons}
+use borrow.Author.Tests.{eq-eqb, ne-eqb, le-leb, lt-leb}
+use Rattle.base.specs.Pick.{pick}
+use Rattle.ebpf.specs.Insn.{readAt}
+use Rattle.ebpf.specs.Opcode.{kindOf}
+use Rattle.ebpf.specs.Kinds.{numbers}
+use Rattle.ebpf.specs.declared.insn.Insn.{Insn}
+use Rattle.ebpf.specs.declared.insn.Read.{Read}
+use Rattle.ebpf.specs.declared.insn.Read.the-variants.{Whole, Torn}
+use Rattle.ebpf.specs.declared.kind.Kind.{Kind}
+use Rattle.ebpf.specs.declared.kind.Lookup.{Lookup}
+use Rattle.jit.specs.declared.Helper.{Helper}
+use Rattle.jit.specs.declared.Helper.the-variants.{Address, Missing}
+use Rattle.jit.specs.declared.Refusal.{Refusal}
+use Rattle.jit.specs.Translation.{at, found, helperOf, swapBits, Operand, lacks, has, Step, stop, go, blockOf, operandOf, taken, known, goodRegisters, stepRead, stepAt}
+use Rattle.walk.specs.declared.step.Operand as code
+use Rattle.walk.specs.declared.step.Operand.the-variants.{Lacks, Has}
+use Rattle.walk.specs.declared.step.Stepped.{Stepped}
+use Rattle.walk.specs.declared.step.Stepped.the-variants.{Stop, Go}
+
+-- the answers as the definition has them
+abbrev pub operandIs : code.Operand → Operand
+operandIs (Lacks r) = lacks r
+operandIs (Has v) = has v
+
+abbrev pub stepIs : ℕ → Stepped → Step
+stepIs slot (Stop r) = stop r
+stepIs slot (Go k i v) = go (blockOf k slot i v)
+
+abbrev pub swapValue : ℕ → Insn → Operand
+swapValue slot i = pick (swapBits (i .imm)) (has 0) (lacks (Refusal.BadSwap (at slot)))
+
+-- what a step asks: the opcode table, and an address for each id
+pub record Asks (kinds ids addresses : List ℕ) (slot : ℕ) : Type 0 where
+  pub table : kinds ≡ numbers
+  pub pairs : length ids ≡ length addresses
+  pub small : slot < 2 ^ 40
+
+-- the registers of a slot that is not refused
+abbrev pub Registers : Stepped → Type 0
+Registers (Stop r) = Unit {0}
+Registers (Go k i v) = (i .dst < 11) × (i .src < 11)
+
+pub record Steps (program ids addresses : List ℕ) (slot : ℕ) (r : Stepped) : Type 0 where
+  pub step : stepIs slot r ≡ stepAt program ids addresses slot
+  pub registers : Registers r
+
+-- The search for a helper, one id further.
+module _ (ids addresses : List ℕ) (id : ℕ) where
+  abbrev pub Searching : ℕ → Type 0
+  Searching k = helperOf ids addresses id ≡ helperOf (drop k ids) (drop k addresses) id
+
+  pub search-on : (k : ℕ) → k < length ids → k < length addresses → ¬ (getD ids k 0 ≡ id)
+      → helperOf (drop k ids) (drop k addresses) id ≡ helperOf (drop (k + 1) ids) (drop (k + 1) addresses) id
+  unfolding helperOf
+  search-on k h g n = rw (add-one k, drop-cons ids k 0 h, drop-cons addresses k 0 g, ne-eqb _ _ n)
+
+  pub search-hit : (k : ℕ) → k < length ids → k < length addresses → getD ids k 0 ≡ id → helperOf (drop k ids) (drop k addresses) id ≡ Address (getD addresses k 0)
+  unfolding helperOf
+  search-hit k h g e = rw (drop-cons ids k 0 h, drop-cons addresses k 0 g, eq-eqb _ _ e)
+
+  pub search-end : (k : ℕ) → length ids ≤ k → helperOf (drop k ids) (drop k addresses) id ≡ Missing
+  unfolding helperOf
+  search-end k h = rw (drop-of-length-le ids h)
