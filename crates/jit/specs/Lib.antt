@@ -7,3 +7,4 @@ pub mod Translation
 pub mod Worked
 pub mod SlotSize
 pub mod Bounds
+pub mod Counted

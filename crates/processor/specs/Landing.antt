@@ -1,0 +1,436 @@
+-- Statement 2: each listed field is a jump's, and the processor follows it to its target; the other jumps are the prologue's call and the
+-- skips of divisions.
+-- Assumes nothing.
+use mathlib.Core.Path.{_≡_, refl, ap, sym, _∙_}
+use mathlib.Core.Logic.{_≢_}
+use mathlib.Core.Bool.{Bool, true, false, _&&_}
+use mathlib.Core.List.{List, [], _∷_, _++_, append-assoc}
+use Prim.Native.Nat.{ℕ, zero, suc, _+_, _-_, _^_, _<_}
+use native.Mathlib.Omega.{arith}
+use native.Mathlib.Nat.{zero-add}
+use lib.Dec.{T, leb, eqb, eqb→eq, leb→le}
+use lib.ListN.{length, getD, take, drop, length-append}
+use lib.Seq.{drop-drop, drop-at, getD-at}
+use Rattle.base.specs.Pick.{pick}
+use Rattle.base.specs.Bytes.{le32}
+use Rattle.base.specs.Tests.{T-true, true-T, and-l, and-r, or-elim, eqb-true}
+use Rattle.x86.specs.Instr.{Instr, op, Jump, jmp, call, jcc, jump, callReg, ret}
+use Rattle.x86.specs.Encode.{jumpOpcode, len}
+use Rattle.x86.specs.Code.{Dest, near, to, field, size, lowered, bytes, codeOf, place, target, fieldsOf, targetsOf, fields-append, length-fields, length-bytes, len-map, size-append}
+use Rattle.jit.specs.Limits.{anchor}
+use Rattle.jit.specs.MulDivMod.{Code}
+use Rattle.jit.specs.Frame.{saves, packetStart, packetEnd, argument, enter, prologue, epilogue}
+use Rattle.jit.specs.Translation.{Inputs, slotsOf, goodTarget, Block, slotsWide, flat, whole, locations, exitOf, placeOf}
+use Rattle.jit.specs.Bounds.{slotsIn, whole-size}
+use Rattle.jit.specs.declared.Flags.{Flags}
+use Rattle.processor.specs.Machine.{follow}
+use Rattle.processor.specs.Placed.{span}
+use Rattle.processor.specs.Reads.{lower, drop-code}
+use Rattle.processor.specs.Demand3.{blocksOf, ExitAt, Meant, slot, exit, first, Lands, Unlisted, listed, entry, skip, Enters, Landing}
+use Rattle.processor.specs.Cells.{follow-to, follow-near}
+use Rattle.processor.specs.Pieces.{nearsIn, near-found, skipsIn, Skip, skip-found}
+use Rattle.processor.specs.Checked.{Calls}
+use Rattle.processor.specs.NotedCode.{prologue-enters}
+use Rattle.processor.specs.Program.{Origins, Goods, goods-at, never}
+use Rattle.processor.specs.Layout.{block-piece, Found, start, found}
+use Rattle.processor.specs.Layout as layout
+use Rattle.processor.specs.Lowered.{lowered-append, lowered-span, stands-lower}
+
+-- The k-th entry of the jump tables is a jump of the list.
+pub record Entry (p : ℕ) (is : Code) (k : ℕ) : Type 0 where
+  pub pre : Code
+  pub kind : Jump
+  pub aim : ℕ
+  pub post : Code
+  pub split : is ≡ pre ++ jump kind (to aim) ∷ post
+  pub ends : getD (fieldsOf p is) k 0 + 4 ≡ p + size pre + len {D = Dest} (jump kind (to aim))
+  pub aims : getD (targetsOf is) k 0 ≡ aim
+
+-- behind an instruction that has no entry, and behind one that has
+entry-on : (p : ℕ) (i : Instr Dest) (is : Code) (k n : ℕ)
+    → getD (place (p + len i) i ++ fieldsOf (p + len i) is) n 0 ≡ getD (fieldsOf (p + len i) is) k 0
+    → getD (target i ++ targetsOf is) n 0 ≡ getD (targetsOf is) k 0 → Entry (p + len i) is k → Entry p (i ∷ is) n
+entry-on p i is k n e t v =
+    record {
+      pre = i ∷ v .pre;
+      kind = v .kind;
+      aim = v .aim;
+      post = v .post;
+      split = ap (λ (l : Code). i ∷ l) (v .split);
+      ends = rw e (v .ends ∙ omega arith);
+      aims = t ∙ v .aims;
+    }
+
+pub entry-at : (p : ℕ) (is : Code) (k : ℕ) → k < length (fieldsOf p is) → Entry p is k
+entry-at p [] k h = absurd (omega (arith, h))
+entry-at p (op q ∷ is) k h = entry-on p (op q) is k k refl refl (entry-at (p + len {D = Dest} (op q)) is k h)
+entry-at p (jump j (near x) ∷ is) k h = entry-on p (jump j (near x)) is k k refl refl (entry-at (p + len {D = Dest} (jump j (near x))) is k h)
+entry-at p (jump j (to t) ∷ is) zero h = record { pre = []; kind = j; aim = t; post = is; split = refl; ends = omega arith; aims = refl }
+entry-at p (jump j (to t) ∷ is) (suc k) h =
+    entry-on p (jump j (to t)) is k (suc k) refl refl (entry-at (p + len {D = Dest} (jump j (to t))) is k (omega (arith, h)))
+entry-at p (callReg r ∷ is) k h = entry-on p (callReg r) is k k refl refl (entry-at (p + len {D = Dest} (callReg r)) is k h)
+entry-at p (ret ∷ is) k h = entry-on p ret is k k refl refl (entry-at (p + 1) is k h)
+
+-- and each listed jump has an entry
+entry-of : (p : ℕ) (pre : Code) (j : Jump) (t : ℕ) (post : Code) → let is = pre ++ jump j (to t) ∷ post in
+    (length (fieldsOf p pre) < length (fieldsOf p is)) × (getD (fieldsOf p is) (length (fieldsOf p pre)) 0 + 4 ≡ p + size pre + len {D = Dest} (jump j (to t)))
+entry-of p pre j t post =
+    let e = fields-append p pre (jump j (to t) ∷ post) in
+    let q = p + size pre in
+    let n : length (fieldsOf p (pre ++ jump j (to t) ∷ post)) ≡ length (fieldsOf p pre) + suc _ = ap length e ∙ length-append (fieldsOf p pre) _ in
+    (omega (arith, n), rw (e, getD-at (fieldsOf p pre) (q + len {D = Dest} (jump j (to t)) - 4) _ 0 (length (fieldsOf p pre)) refl) (omega arith))
+
+-- The four bytes of a field.
+field-bytes : (loc : ℕ → ℕ) (is pre : Code) (j : Jump) (d : Dest) (post : Code) (f : ℕ) → is ≡ pre ++ jump j d ∷ post → f + 4 ≡ size pre + len {D = Dest} (jump j d)
+    → take 4 (drop f (codeOf loc is)) ≡ le32 (field loc (f + 4) d)
+field-bytes loc is pre j d post f e z =
+    let v = field loc (size pre + len {D = Dest} (jump j d)) d in
+    let more = bytes (lowered loc (size pre + len {D = Dest} (jump j d)) post) in
+    let f0 : f ≡ size pre + length (jumpOpcode j) = omega (arith, z) in
+    let c : drop (size pre) (codeOf loc is) ≡ jumpOpcode j ++ (le32 v ++ more) =
+    ap (λ (l : Code). drop (size pre) (codeOf loc l)) e ∙ drop-code loc 0 pre (jump j d ∷ post) ∙ rw (zero-add (size pre)) (append-assoc (jumpOpcode j) (le32 v) more) in
+    rw (z, f0, ← drop-drop (length (jumpOpcode j)) (size pre) (codeOf loc is), c, drop-at (jumpOpcode j) (le32 v ++ more) (length (jumpOpcode j)) refl) refl
+
+-- A jump among the instructions with their fields is a jump of the definition.
+record Raised (loc : ℕ → ℕ) (p : ℕ) (is : Code) (j : Jump) (v q : ℕ) (behind : List (Instr ℕ)) : Type 0 where
+  pre : Code
+  dest : Dest
+  post : Code
+  split : is ≡ pre ++ jump j dest ∷ post
+  far : size pre ≡ q
+  value : v ≡ field loc (p + q + len {D = Dest} (jump j dest)) dest
+  others : behind ≡ lowered loc (p + q + len {D = Dest} (jump j dest)) post
+
+raised-here : (loc : ℕ → ℕ) (p : ℕ) (i : Instr Dest) (is : Code) (j : Jump) (v : ℕ) (behind : List (Instr ℕ)) → lower loc p i ≡ jump j v
+    → lowered loc (p + len i) is ≡ behind
+    → Raised loc p (i ∷ is) j v 0 behind
+raised-here loc p (op q) is j v behind e r = let z : _≡_ {A = ℕ} 0 1 = cc in absurd (omega arith)
+raised-here loc p (jump k d) is j v behind e r =
+    let w : k ≡ j = cc in
+    let x : field loc (p + len {D = Dest} (jump k d)) d ≡ v = cc in
+    let n : p + 0 + len {D = Dest} (jump j d) ≡ p + len {D = Dest} (jump k d) = rw w (omega arith) in
+    record {
+      pre = [];
+      dest = d;
+      post = is;
+      split = rw w;
+      far = refl;
+      value = sym x ∙ rw n;
+      others = sym r ∙ rw n;
+    }
+raised-here loc p (callReg q) is j v behind e r = let z : _≡_ {A = ℕ} 0 1 = cc in absurd (omega arith)
+raised-here loc p ret is j v behind e r = let z : _≡_ {A = ℕ} 0 1 = cc in absurd (omega arith)
+
+raised-later : (loc : ℕ → ℕ) (p : ℕ) (i : Instr Dest) (is : Code) (j : Jump) (v : ℕ) (behind : List (Instr ℕ)) (n q : ℕ) → n ≡ len i
+    → Raised loc (p + len i) is j v q behind → Raised loc p (i ∷ is) j v (n + q) behind
+raised-later loc p i is j v behind n q l r =
+    let z : p + (n + q) + len {D = Dest} (jump j (r .dest)) ≡ p + len i + q + len {D = Dest} (jump j (r .dest)) = rw l (omega arith) in
+    record {
+      pre = i ∷ r .pre;
+      dest = r .dest;
+      post = r .post;
+      split = ap (λ (l : Code). i ∷ l) (r .split);
+      far = rw (l, r .far);
+      value = r .value ∙ rw z;
+      others = r .others ∙ rw z;
+    }
+
+raise : (loc : ℕ → ℕ) (p : ℕ) (is : Code) (before : List (Instr ℕ)) (j : Jump) (v : ℕ) (behind : List (Instr ℕ))
+    → lowered loc p is ≡ before ++ jump j v ∷ behind
+    → Raised loc p is j v (span len before) behind
+raise loc p [] [] j v behind e = let z : _≡_ {A = ℕ} 0 1 = cc in absurd (omega arith)
+raise loc p [] (b ∷ before) j v behind e = let z : _≡_ {A = ℕ} 0 1 = cc in absurd (omega arith)
+raise loc p (i ∷ is) [] j v behind e =
+    let h : lower loc p i ≡ jump j v = cc in
+    let r : lowered loc (p + len i) is ≡ behind = cc in
+    raised-here loc p i is j v behind h r
+raise loc p (i ∷ is) (b ∷ before) j v behind e =
+    let h : lower loc p i ≡ b = cc in
+    let t : lowered loc (p + len i) is ≡ before ++ jump j v ∷ behind = cc in
+    raised-later loc p i is j v behind (len b) (span len before) (ap len (sym h) ∙ len-map (field loc (p + len i)) i) (raise loc (p + len i) is before j v behind t)
+
+-- An element of two lists joined is one of the first or of the second.
+data Cut {A : Type 0} (a b pre : List A) (i : A) (post : List A) : Type 0 where
+  left : (more : List A) → a ≡ pre ++ i ∷ more → post ≡ more ++ b → Cut a b pre i post
+  right : (more : List A) → pre ≡ a ++ more → b ≡ more ++ i ∷ post → Cut a b pre i post
+
+cut : {A : Type 0} (a b pre : List A) (i : A) (post : List A) → a ++ b ≡ pre ++ i ∷ post → Cut a b pre i post
+cut [] b pre i post e = right pre refl e
+cut (x ∷ a) b [] i post e =
+    let h : x ≡ i = cc in
+    let t : a ++ b ≡ post = cc in
+    left a (rw h) (sym t)
+cut {A} (x ∷ a) b (y ∷ pre) i post e = by (cut a b pre i post (let t : a ++ b ≡ pre ++ i ∷ post = cc in t))
+  where
+    h : x ≡ y
+    h = cc
+
+    by : Cut a b pre i post → Cut (x ∷ a) b (y ∷ pre) i post
+    by (left more p q) = left more (rw h (ap (λ (l : List A). y ∷ l) p)) q
+    by (right more p q) = right more (rw h (ap (λ (l : List A). y ∷ l) p)) q
+
+-- The prologue's call is the only jump there that is not listed, and goes over the five bytes that are left; the epilogue has none.
+abbrev isCall : Jump → Bool
+isCall jmp = false
+isCall call = true
+isCall (jcc c) = false
+
+call-is : (j : Jump) → T (isCall j) → j ≡ call
+call-is jmp t = absurd t
+call-is call t = refl
+call-is (jcc c) t = absurd t
+
+abbrev isEntry : Jump → ℕ → Code → Bool
+isEntry j k r = isCall j && (eqb k 5 && eqb (size r) 5)
+
+prologue-nears : (f : Flags) → T (nearsIn isEntry (prologue f))
+unfolding saves packetStart packetEnd argument enter prologue
+prologue-nears f = by (f .use_mbuff) (f .update_data_ptr)
+  where
+    by : (a b : Bool) → T (nearsIn isEntry (prologue (record { use_mbuff = a; update_data_ptr = b })))
+    by true true = tt
+    by true false = tt
+    by false b = tt
+
+epilogue-nears : T (nearsIn (λ j k r. false) epilogue)
+unfolding epilogue
+epilogue-nears = tt
+
+-- a jump of the blocks that is not listed, in its block
+record InBlock (bs : List Block) (pre : Code) (j : Jump) (k : ℕ) (post : Code) : Type 0 where
+  ahead : List Block
+  block : Block
+  behind : List Block
+  split : bs ≡ ahead ++ block ∷ behind
+  above : Code
+  below : Code
+  start : pre ≡ flat ahead ++ above
+  inside : block .code ≡ above ++ jump j (near k) ∷ below
+  rest : post ≡ below ++ flat behind
+  skips : T (skipsIn (block .code))
+
+in-block : (n : ℕ) (bs : List Block) → Origins n bs → (pre : Code) (j : Jump) (k : ℕ) (post : Code)
+    → flat bs ≡ pre ++ jump j (near k) ∷ post → InBlock bs pre j k post
+in-block n [] o [] j k post e = let z : _≡_ {A = ℕ} 0 1 = cc in absurd (omega arith)
+in-block n [] o (i ∷ pre) j k post e = let z : _≡_ {A = ℕ} 0 1 = cc in absurd (omega arith)
+in-block n (b ∷ bs) o pre j k post e =
+    by (cut (b .code) (flat bs) pre (jump j (near k)) post e) (λ more h. in-block (n + slotsWide (b .wide)) bs (o .1) more j k post h)
+  where
+    later : (more : Code) → pre ≡ b .code ++ more → InBlock bs more j k post → InBlock (b ∷ bs) pre j k post
+    later more p r =
+        record {
+          ahead = b ∷ r .ahead;
+          block = r .block;
+          behind = r .behind;
+          split = ap (λ (l : List Block). b ∷ l) (r .split);
+          above = r .above;
+          below = r .below;
+          start = p ∙ ap (λ (l : Code). b .code ++ l) (r .start) ∙ sym (append-assoc (b .code) (flat (r .ahead)) (r .above));
+          inside = r .inside;
+          rest = r .rest;
+          skips = r .skips;
+        }
+
+    by : Cut (b .code) (flat bs) pre (jump j (near k)) post
+        → ((more : Code) → flat bs ≡ more ++ jump j (near k) ∷ post → InBlock bs more j k post)
+        → InBlock (b ∷ bs) pre j k post
+    by (left more p q) ih =
+        record { ahead = []; block = b; behind = bs; split = refl; above = pre; below = more; start = refl; inside = p; rest = q; skips = block-piece n b (o .0) .skips }
+    by (right more p q) ih = later more p (ih more q)
+
+-- All of it, for the blocks of x.
+module _ (x : Inputs) (bs : List Block) (is-blocks : blocksOf x ≡ bs) (o : Origins 0 bs) (short : size (whole (x .flags) bs) < 2 ^ 31)
+    (few : length (locations (x .flags) bs) ≡ slotsOf (x .program) + 1) (good : Goods (slotsOf (x .program)) (targetsOf (whole (x .flags) bs))) where
+  abbrev f : Flags
+  f = x .flags
+
+  abbrev locs : List ℕ
+  locs = locations f bs
+
+  abbrev loc : ℕ → ℕ
+  loc = placeOf locs (exitOf f bs)
+
+  abbrev code : List ℕ
+  code = codeOf loc (whole f bs)
+
+  abbrev all : List (Instr ℕ)
+  all = lowered loc 0 (whole f bs)
+
+  loc-lt : (t : ℕ) → loc t < 2 ^ 31
+  loc-lt t = omega (arith, layout.label-most f bs o t)
+
+  -- where a target lies
+  exit-there : ExitAt code all (exitOf f bs)
+  unfolding epilogue
+  exit-there =
+      let front = prologue f ++ flat bs in
+      let e : whole f bs ≡ front ++ epilogue = sym (append-assoc (prologue f) (flat bs) epilogue) in
+      record {
+        before = lowered loc 0 front;
+        split = ap (lowered loc 0) e ∙ lowered-append loc 0 front epilogue;
+        place = lowered-span loc 0 front ∙ size-append (prologue f) (flat bs);
+        ends = rw (length-bytes loc 0 (whole f bs), whole-size f bs) (omega arith);
+      }
+
+  meant : (t : ℕ) → T (goodTarget (slotsOf (x .program)) t) → Meant x code all locs t (loc t)
+  unfolding goodTarget
+  meant t g = by (eqb t anchor) refl
+    where
+      n : ℕ
+      n = slotsOf (x .program)
+
+      within : eqb t anchor ≡ false → t < length locs
+      within e = or-elim (leb t n) (eqb t anchor) g (λ h. omega (arith, few, leb→le t n h)) (λ h. never (sym (T-true _ h) ∙ e))
+
+      located : t < length locs → t ≢ anchor → Found 0 bs o t (size (prologue f)) (getD locs t 0) → Meant x code all locs t (getD locs t 0)
+      located l n (layout.first e) = first l n e e
+      located l n (start q e s) =
+          slot (s .block) l n (record { ahead = s .ahead; behind = s .behind; split = is-blocks ∙ s .split; number = s .number; place = rw (s .place) (sym e) }) refl
+
+      other : eqb t anchor ≡ false → t ≢ anchor
+      other e q = never (sym (eqb-true t anchor q) ∙ e)
+
+      by : (b : Bool) → eqb t anchor ≡ b → Meant x code all locs t (pick b (exitOf f bs) (getD locs t 0))
+      by true e = exit (eqb→eq t anchor (true-T _ e)) exit-there
+      by false e = located (within e) (other e) (found (size (prologue f)) 0 bs o t)
+
+  end-lt : (pre : Code) (i : Instr Dest) (post : Code) → whole f bs ≡ pre ++ i ∷ post → size pre + len i < 2 ^ 31
+  end-lt pre i post e = omega (arith, ap size e ∙ size-append pre (i ∷ post))
+
+  lands : (k : ℕ) → k < length (fieldsOf 0 (whole f bs))
+      → Lands x code all locs (getD (fieldsOf 0 (whole f bs)) k 0) (getD (targetsOf (whole f bs)) k 0)
+  lands k h =
+      let v = entry-at 0 (whole f bs) k h in
+      let i : Instr Dest = jump (v .kind) (to (v .aim)) in
+      let e = getD (fieldsOf 0 (whole f bs)) k 0 + 4 in
+      let z : e ≡ size (v .pre) + len i = v .ends ∙ omega arith in
+      let y : size (v .pre) + len i < 2 ^ 31 = end-lt (v .pre) i (v .post) (v .split) in
+      record {
+        kind = v .kind;
+        field = field loc (size (v .pre) + len i) (to (v .aim));
+        start = size (v .pre);
+        stands = stands-lower loc (whole f bs) (v .pre) i (v .post) (size (v .pre)) (v .split) refl;
+        ends = sym z;
+        word = omega arith;
+        bytes = rw z at (field-bytes loc (whole f bs) (v .pre) (v .kind) (to (v .aim)) (v .post) _ (v .split) z);
+        meant = rw (z, follow-to (size (v .pre) + len i) (loc (v .aim)) y (loc-lt (v .aim)), v .aims)
+            (meant (v .aim) (rw (v .aims) at (goods-at (slotsOf (x .program)) (targetsOf (whole f bs)) k good (rw (← length-fields 0 (whole f bs)) h))));
+      }
+
+  -- the other jumps
+  module _ (q v : ℕ) (j : Jump) (behind : List (Instr ℕ)) (r : Raised loc 0 (whole f bs) j v q behind) where
+    abbrev at : ℕ
+    at = q + len {D = ℕ} (jump j v)
+
+    abbrev Out : Type 0
+    Out = Unlisted x (fieldsOf 0 (whole f bs)) j v at behind
+
+    out-listed : (t : ℕ) → r .dest ≡ to t → Out
+    out-listed t e =
+        let s : whole f bs ≡ r .pre ++ jump j (to t) ∷ r .post = r .split ∙ rw e in
+        let n = entry-of 0 (r .pre) j t (r .post) in
+        listed (length (fieldsOf 0 (r .pre))) (rw s (n .0)) (rw s (n .1 ∙ omega (arith, r .far)))
+
+    module _ (k : ℕ) (e : r .dest ≡ near k) where
+      is-near : v ≡ k
+      is-near = r .value ∙ rw e
+
+      whole-split : whole f bs ≡ r .pre ++ jump j (near k) ∷ r .post
+      whole-split = r .split ∙ rw e
+
+      out-entry : (more : Code) → prologue f ≡ r .pre ++ jump j (near k) ∷ more → Out
+      out-entry more s =
+          let t = near-found isEntry (prologue f) (r .pre) j k more (prologue-nears f) s in
+          let u = and-r (isCall j) (eqb k 5 && eqb (size more) 5) t in
+          let five : k ≡ 5 = eqb→eq k 5 (and-l (eqb k 5) (eqb (size more) 5) u) in
+          let left : size more ≡ 5 = eqb→eq (size more) 5 (and-r (eqb k 5) (eqb (size more) 5) u) in
+          let n : size (prologue f) ≡ at + k = ap size s ∙ size-append (r .pre) (jump j (near k) ∷ more) ∙ omega (arith, r .far, five, left) in
+          let y = end-lt (r .pre) (jump j (near k)) (r .post) whole-split in
+          let m : size (whole f bs) ≡ size (prologue f) + size (flat bs ++ epilogue) = size-append (prologue f) (flat bs ++ epilogue) in
+          entry (call-is j (and-l (isCall j) (eqb k 5 && eqb (size more) 5) t)) (rw (is-near, follow-near at k (omega (arith, n, m))) (sym n))
+
+      -- below the skip: the slot's other instructions, the blocks behind it, the epilogue
+      out-skip : (more post : Code) → r .pre ≡ prologue f ++ more → r .post ≡ post ++ epilogue → (b : InBlock bs more j k post)
+          → Skip j k (b .below) → Out
+      out-skip more post p s b d =
+          let c = b .block .code in
+          let tail = (d .more ++ flat (b .behind)) ++ epilogue in
+          let rest : r .post ≡ op (d .clear) ∷ jump jmp (to (d .target)) ∷ d .behind ∷ tail =
+          s ∙ ap (λ (l : Code). l ++ epilogue) (b .rest) ∙ ap (λ (l : Code). (l ++ flat (b .behind)) ++ epilogue) (d .over) in
+          let e0 : ℕ = 0 + q + len {D = Dest} (jump j (r .dest)) in
+          let e1 : ℕ = e0 + len {D = Dest} (op (d .clear)) in
+          let e2 : ℕ = e1 + 5 in
+          let next = lower loc e2 (d .behind) in
+          let begin : ℕ = size (prologue f) + size (flat (b .ahead)) in
+          let n : q ≡ begin + size (b .above) =
+          sym (r .far) ∙ ap size p ∙ size-append (prologue f) more ∙ ap (λ (l : Code). size (prologue f) + size l) (b .start)
+          ∙ (rw (size-append (flat (b .ahead)) (b .above)) (omega arith)) in
+          let m : size c ≡ size (b .above) + (len {D = Dest} (jump j (near k)) + (len {D = Dest} (op (d .clear)) + (5 + (len (d .behind) + size (d .more))))) =
+          ap size (b .inside) ∙ size-append (b .above) (jump j (near k) ∷ b .below)
+          ∙ ap (λ (l : Code). size (b .above) + (len {D = Dest} (jump j (near k)) + size l)) (d .over) in
+          let w : size (whole f bs) ≡ at + size (r .post) = ap size whole-split ∙ size-append (r .pre) (jump j (near k) ∷ r .post) ∙ rw (r .far) (omega arith) in
+          let t : size (r .post) ≡ len {D = Dest} (op (d .clear)) + (5 + (len (d .behind) + size tail)) = ap size rest in
+          let g : follow at v ≡ at + k = rw is-near (follow-near at k (omega (arith, w, t, d .far, short))) in
+          let l : len next ≡ len (d .behind) = len-map (field loc (e2 + len (d .behind))) (d .behind) in
+          skip
+          (record {
+            unequal = d .unequal;
+            clear = d .clear;
+            field = field loc e2 (to (d .target));
+            next = next;
+            more = lowered loc (e2 + len (d .behind)) tail;
+            over = r .others ∙ ap (lowered loc e0) rest;
+            goes = g ∙ omega (arith, d .far);
+            t = slotsIn (b .ahead);
+            q = begin;
+            block = b .block;
+            slot = record { ahead = b .ahead; behind = b .behind; split = is-blocks ∙ b .split; number = refl; place = refl };
+            from = omega (arith, n);
+            within = omega (arith, g, n, m, d .far, l);
+          })
+
+    -- in which part of the page it stands
+    out : Out
+    out = by (r .dest) refl
+      where
+        inFlat : (k : ℕ) → r .dest ≡ near k → (more : Code) → r .pre ≡ prologue f ++ more
+            → Cut (flat bs) epilogue more (jump j (near k)) (r .post) → Out
+        inFlat k e more p (left post a b) =
+            let c = in-block 0 bs o more j k post a in
+            out-skip k e more post p b c (skip-found (c .block .code) (c .above) j k (c .below) (c .skips) (c .inside))
+        inFlat k e more p (right post a b) = absurd (near-found (λ j k r. false) epilogue post j k (r .post) epilogue-nears b)
+
+        inWhole : (k : ℕ) → r .dest ≡ near k → Cut (prologue f) (flat bs ++ epilogue) (r .pre) (jump j (near k)) (r .post) → Out
+        inWhole k e (left more a b) = out-entry k e more a
+        inWhole k e (right more a b) = inFlat k e more a (cut (flat bs) epilogue more (jump j (near k)) (r .post) b)
+
+        by : (d : Dest) → r .dest ≡ d → Out
+        by (near k) e = inWhole k e (cut (prologue f) (flat bs ++ epilogue) (r .pre) (jump j (near k)) (r .post) (whole-split k e))
+        by (to t) e = out-listed t e
+
+  -- the prologue's call
+  enters : Enters x all
+  enters = by (prologue-enters f)
+    where
+      by : Calls (prologue f) → Enters x all
+      by c =
+          let behind = jump jmp (to (c .aim)) ∷ (flat bs ++ epilogue) in
+          let n : size (prologue f) ≡ size (c .pre) + 10 = ap size (c .split) ∙ size-append (c .pre) (jump call (near 5) ∷ jump jmp (to (c .aim)) ∷ []) in
+          let e : whole f bs ≡ c .pre ++ jump call (near 5) ∷ behind =
+          ap (λ (l : Code). l ++ (flat bs ++ epilogue)) (c .split) ∙ append-assoc (c .pre) (jump call (near 5) ∷ jump jmp (to (c .aim)) ∷ []) (flat bs ++ epilogue) in
+          let m : size (whole f bs) ≡ size (prologue f) + size (flat bs ++ epilogue) = size-append (prologue f) (flat bs ++ epilogue) in
+          record {
+            field = 5;
+            stands = stands-lower loc (whole f bs) (c .pre) (jump call (near 5)) behind (size (prologue f) - 10) e (omega (arith, n));
+            goes = follow-near (size (prologue f) - 5) 5 (omega (arith, m, n)) ∙ omega (arith, n);
+          }
+
+  pub landing : Landing x code all locs (fieldsOf 0 (whole f bs)) (targetsOf (whole f bs))
+  landing =
+      record {
+        pairs = sym (length-fields 0 (whole f bs));
+        listed = lands;
+        enters = enters;
+        others = λ p v j s.
+            rw (s .place) at (out (span len (s .before)) v j (s .behind) (raise loc 0 (whole f bs) (s .before) j v (s .behind) (s .split)));
+      }

@@ -1,0 +1,28 @@
+-- What the code does when it is read and run. Open Demand3 first: it has the statements. Machine is the processor that they are about.
+-- Then, from the ground up: places in lists of sized things (Placed), reading (Reads, Lowered), what is known of registers (Facts), code with
+-- notes (Cells), the two checks with their soundness (Flow, Depth), the notes of every slot (Notes) and that they pass (Checked), pieces of
+-- checked code (Pieces), the code of crate jit as such pieces (NotedCode), what an accepted translation is made of (Program), the whole page
+-- (Layout), landing (Landing), and the proof (Proved). Useless says what demand 3 rules out by itself. The model is held by Pinned (it leaves
+-- open what it must), Words (registers stay numbers of 64 bits), WorkedRun (one run to its end) and ModelTests (a table, see model-test/).
+pub mod Machine
+pub mod Demand3
+pub mod Placed
+pub mod Reads
+pub mod Lowered
+pub mod Facts
+pub mod Cells
+pub mod Flow
+pub mod Depth
+pub mod Notes
+pub mod Checked
+pub mod Pieces
+pub mod NotedCode
+pub mod Program
+pub mod Layout
+pub mod Landing
+pub mod Proved
+pub mod Useless
+pub mod Pinned
+pub mod Words
+pub mod WorkedRun
+pub mod ModelTests

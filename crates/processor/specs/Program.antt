@@ -1,0 +1,310 @@
+-- What an accepted translation is made of: the walk's blocks, each the code of one slot whose numbers are in range; and its code, tables
+-- and bounds, read off these.
+-- Assumes nothing.
+use mathlib.Core.Path.{_≡_, refl, ap, _∙_}
+use mathlib.Core.Bool.{Bool, true, false, _||_}
+use mathlib.Core.List.{List, [], _∷_, _++_}
+use Prim.Native.Nat.{ℕ, zero, suc, _+_, _*_, _^_, _≤_, _<_}
+use native.Mathlib.Omega.{arith}
+use lib.Dec.{T, leb, ltb, eqb}
+use lib.ListN.{length, getD, length-append}
+use borrow.Author.Tests.{ltb-true, ltb-false}
+use Rattle.base.specs.Pick.{pick}
+use Rattle.ebpf.specs.Insn.{le2, extend, insnAt, readAt}
+use Rattle.ebpf.specs.Opcode.{kindOf}
+use Rattle.ebpf.specs.declared.insn.Insn.{Insn}
+use Rattle.ebpf.specs.declared.insn.Read.the-variants.{Whole, Torn}
+use Rattle.ebpf.specs.declared.kind.Kind.{Kind}
+use Rattle.ebpf.specs.declared.kind.Kind.the-variants.{LdAbs, LdInd, LdDwImm, LdReg, StImm, StReg, Alu, Shift, Neg, MulDivMod, Mov, Le, Be, Ja, Jump, Call, Exit}
+use Rattle.ebpf.specs.declared.kind.Lookup.{Lookup}
+use Rattle.ebpf.specs.declared.kind.Lookup.the-variants.{Known, Unimplemented, Unknown}
+use Rattle.x86.specs.Code.{size, codeOf, fieldsOf, targetsOf, targets-append, length-bytes}
+use Rattle.jit.specs.declared.Helper.{Helper}
+use Rattle.jit.specs.declared.Helper.the-variants.{Address, Missing}
+use Rattle.jit.specs.declared.Bad.{Bad}
+use Rattle.jit.specs.declared.Bad.the-variants.{Nowhere, At}
+use Rattle.jit.specs.declared.Refusal.{Refusal}
+use Rattle.base.specs.Tests.{true-T}
+use Rattle.jit.specs.declared.Flags.{Flags}
+use Rattle.jit.specs.Limits.{shortestPage, longestPage, longestProgram, anchor}
+use Rattle.jit.specs.Frame.{prologue, epilogue, prologue-targets, epilogue-targets}
+use Rattle.jit.specs.Translation.{Inputs, slotsOf, found, helperOf, Block, blockOf, Operand, lacks, has, wideValue, swapBits, helperValue, operandOf, Step, stop, go, taken, known, goodRegisters, stepRead, stepAt, Walk, refused, done, slotsWide, within, after, rest, flat, entries, starts, goodTarget, badIn, orElse, firstBad, Outcome, no, yes, whole, locations, exitOf, placeOf, accepted, unlessBad, finish, walkOf, badHelpers, sizesOf, translationOf}
+use Rattle.jit.specs.Counted.{all-slots, length-locations}
+use Rattle.jit.specs.Bounds.{slotsIn, Good, rest-good, sounds-inside, Bound, bounds}
+use Rattle.processor.specs.Demand3.{Given}
+use Rattle.processor.specs.NotedCode.{Numbers}
+
+-- a block that a slot gave
+pub record Origin (slot : ℕ) (b : Block) : Type 0 where
+  pub kind : Kind
+  pub insn : Insn
+  pub value : ℕ
+  pub same : b ≡ blockOf kind slot insn value
+  pub numbers : Numbers slot insn value
+
+abbrev Comes : ℕ → Step → Type 0
+Comes slot (stop r) = Unit {0}
+Comes slot (go b) = Origin slot b
+
+pub never : {A : Type 0} → true ≡ false → A
+never p = let z : _≡_ {A = ℕ} 0 1 = cc in absurd (omega arith)
+
+-- One slot.
+module _ (x : Inputs) (given : Given x) where
+  -- the fields of a slot
+  extend-lt : (n : ℕ) → n < 2 ^ 16 → extend n < 2 ^ 32
+  extend-lt n h = by (ltb n 32768)
+    where
+      by : (t : Bool) → pick t n (n + 4294901760) < 2 ^ 32
+      by true = omega arith
+      by false = omega arith
+
+  off-lt : (slot : ℕ) → insnAt (x .program) slot .off < 2 ^ 32
+  unfolding insnAt
+  off-lt slot =
+      let at = 8 * slot + 2 in
+      extend-lt (le2 (x .program) at) (omega (arith, given .bytes at, given .bytes (at + 1)))
+
+  imm-lt : (slot : ℕ) → insnAt (x .program) slot .imm < 2 ^ 32
+  unfolding insnAt
+  imm-lt slot =
+      let at = 8 * slot + 4 in
+      omega (arith, given .bytes at, given .bytes (at + 1), given .bytes (at + 2), given .bytes (at + 3))
+
+  helper-lt : (ids addresses : List ℕ) (id : ℕ) → ((k : ℕ) → getD addresses k 0 < 2 ^ 64) → (a : ℕ) → helperOf ids addresses id ≡ Address a
+      → a < 2 ^ 64
+  unfolding helperOf
+  helper-lt [] addresses id h a e = let z : _≡_ {A = ℕ} 0 1 = cc in absurd (omega arith)
+  helper-lt (i ∷ ids) [] id h a e = let z : _≡_ {A = ℕ} 0 1 = cc in absurd (omega arith)
+  helper-lt (i ∷ ids) (b ∷ addresses) id h a e = by (eqb i id) e (λ q. helper-lt ids addresses id (λ k. h (suc k)) a q)
+    where
+      by : (t : Bool) → found t b (helperOf ids addresses id) ≡ Address a → (helperOf ids addresses id ≡ Address a → a < 2 ^ 64) → a < 2 ^ 64
+      by true q ih = let z : b ≡ a = cc in omega (arith, h 0)
+      by false q ih = ih q
+
+  module _ (slot : ℕ) (small : slot < 2 ^ 32) where
+    comes : (k : Kind) (value : ℕ) → value < 2 ^ 64 → Comes slot (go (blockOf k slot (insnAt (x .program) slot) value))
+    comes k value h = record { kind = k; insn = insnAt (x .program) slot; value = value; same = refl; numbers = record { here = small; off = off-lt slot; imm = imm-lt slot; wide = h } }
+
+    abbrev Taken : Kind → Operand → Type 0
+    Taken k o = Comes slot (taken k slot (insnAt (x .program) slot) o)
+
+    taken-wide : (t : Bool)
+        → Taken LdDwImm (wideValue slot (insnAt (x .program) slot) (pick t Torn (Whole (insnAt (x .program) (slot + 1)))))
+    taken-wide true = tt
+    taken-wide false = comes LdDwImm _ (omega (arith, imm-lt slot, imm-lt (slot + 1)))
+
+    taken-swap : (t : Bool) → Taken Be (pick t (has 0) (lacks (Refusal.BadSwap (record { number = slot }))))
+    taken-swap true = comes Be 0 (omega arith)
+    taken-swap false = tt
+
+    taken-helper : (h : Helper) → helperOf (x .ids) (x .addresses) (insnAt (x .program) slot .imm) ≡ h → Taken Call (helperValue slot h)
+    taken-helper (Address a) e = comes Call a (helper-lt (x .ids) (x .addresses) _ (given .addresses) a e)
+    taken-helper Missing e = tt
+
+    taken-call : (s t : Bool) → Taken Call (pick s (helperValue slot (helperOf (x .ids) (x .addresses) (insnAt (x .program) slot .imm))) (pick t (has 0) (lacks (Refusal.BadCall (record { number = slot })))))
+    taken-call true t = taken-helper (helperOf (x .ids) (x .addresses) (insnAt (x .program) slot .imm)) refl
+    taken-call false true = comes Call 0 (omega arith)
+    taken-call false false = tt
+
+    taken-kind : (k : Kind) → Taken k (operandOf (x .ids) (x .addresses) k slot (insnAt (x .program) slot) (readAt (x .program) (slot + 1)))
+    unfolding readAt
+    taken-kind (LdAbs z) = comes (LdAbs z) 0 (omega arith)
+    taken-kind (LdInd z) = comes (LdInd z) 0 (omega arith)
+    taken-kind LdDwImm = taken-wide (ltb (length (x .program)) (8 * (slot + 1) + 8))
+    taken-kind (LdReg z) = comes (LdReg z) 0 (omega arith)
+    taken-kind (StImm z) = comes (StImm z) 0 (omega arith)
+    taken-kind (StReg z) = comes (StReg z) 0 (omega arith)
+    taken-kind (Alu o w s) = comes (Alu o w s) 0 (omega arith)
+    taken-kind (Shift o w s) = comes (Shift o w s) 0 (omega arith)
+    taken-kind (Neg w) = comes (Neg w) 0 (omega arith)
+    taken-kind (MulDivMod o w s) = comes (MulDivMod o w s) 0 (omega arith)
+    taken-kind (Mov w s) = comes (Mov w s) 0 (omega arith)
+    taken-kind Le = comes Le 0 (omega arith)
+    taken-kind Be = taken-swap (swapBits (insnAt (x .program) slot .imm))
+    taken-kind Ja = comes Ja 0 (omega arith)
+    taken-kind (Jump c w s) = comes (Jump c w s) 0 (omega arith)
+    taken-kind Call = taken-call (eqb (insnAt (x .program) slot .src) 0) (eqb (insnAt (x .program) slot .src) 1)
+    taken-kind Exit = comes Exit 0 (omega arith)
+
+    known-comes : (l : Lookup)
+        → Comes slot (known (x .ids) (x .addresses) l slot (insnAt (x .program) slot) (readAt (x .program) (slot + 1)))
+    known-comes Unknown = tt
+    known-comes Unimplemented = tt
+    known-comes (Known k) = taken-kind k
+
+    registers-comes : (t : Bool) (l : Lookup) → Comes slot (pick t (known (x .ids) (x .addresses) l slot (insnAt (x .program) slot) (readAt (x .program) (slot + 1))) (stop (Refusal.BadRegister (record { number = slot }))))
+    registers-comes true l = known-comes l
+    registers-comes false l = tt
+
+    step-comes : Comes slot (stepAt (x .program) (x .ids) (x .addresses) slot)
+    unfolding stepAt readAt
+    step-comes = by (ltb (length (x .program)) (8 * slot + 8))
+      where
+        by : (t : Bool)
+            → Comes slot (stepRead (x .ids) (x .addresses) slot (pick t Torn (Whole (insnAt (x .program) slot))) (readAt (x .program) (slot + 1)))
+        by true = tt
+        by false = let i = insnAt (x .program) slot in registers-comes (goodRegisters i) (kindOf (i .opc))
+
+-- All slots.
+abbrev pub Origins : ℕ → List Block → Type 0
+Origins slot [] = Unit {0}
+Origins slot (b ∷ bs) = Origin slot b × Origins (slot + slotsWide (b .wide)) bs
+
+abbrev Came : ℕ → Walk → Type 0
+Came slot (refused r) = Unit {0}
+Came slot (done bs) = Origins slot bs
+
+module _ (x : Inputs) (given : Given x) (few : length (x .program) ≤ longestProgram) where
+  came-within : (t : Bool) (slot : ℕ) (b : Block) (w : Walk) → Origin slot b → Came (slot + slotsWide (b .wide)) w
+      → Came slot (within t slot b w)
+  came-within true slot b (refused r) h g = tt
+  came-within true slot b (done bs) h g = (h, g)
+  came-within false slot b w h g = tt
+
+  came-after : (slot place : ℕ) (s : Step) (k : ℕ → ℕ → Walk) → Comes slot s → ((t p : ℕ) → Came t (k t p))
+      → Came slot (after (x .page) slot place s k)
+  came-after slot place (stop r) k h g = tt
+  came-after slot place (go b) k h g =
+      let next = slot + slotsWide (b .wide) in
+      let p = place + size (b .code) in
+      came-within (leb p (x .page)) slot b (k next p) h (g next p)
+
+  came-rest : (fuel slot place : ℕ) → Came slot (rest fuel (x .program) (x .ids) (x .addresses) (x .page) slot place)
+  unfolding rest
+  came-rest zero slot place = tt
+  came-rest (suc fuel) slot place = by (ltb (8 * slot) (length (x .program))) refl (λ t p. came-rest fuel t p)
+    where
+      more : ℕ → ℕ → Walk
+      more s p = rest fuel (x .program) (x .ids) (x .addresses) (x .page) s p
+
+      by : (t : Bool) → ltb (8 * slot) (length (x .program)) ≡ t → ((t p : ℕ) → Came t (more t p))
+          → Came slot (pick t (after (x .page) slot place (stepAt (x .program) (x .ids) (x .addresses) slot) more) (done []))
+      by true e ih = came-after slot place (stepAt (x .program) (x .ids) (x .addresses) slot) more (step-comes x given slot (omega (arith, ltb-true (8 * slot) (length (x .program)) e))) ih
+      by false e ih = tt
+
+-- Every recorded target is a slot, n or the anchor.
+abbrev pub Goods : ℕ → List ℕ → Type 0
+Goods n [] = Unit {0}
+Goods n (t ∷ ts) = T (goodTarget n t) × Goods n ts
+
+goods-append : (n : ℕ) (a b : List ℕ) → Goods n a → Goods n b → Goods n (a ++ b)
+goods-append n [] b p q = q
+goods-append n (t ∷ a) b p q = (p .0, goods-append n a b (p .1) q)
+
+pub goods-at : (n : ℕ) (ts : List ℕ) (k : ℕ) → Goods n ts → k < length ts → T (goodTarget n (getD ts k 0))
+goods-at n [] k g h = absurd (omega (arith, h))
+goods-at n (t ∷ ts) zero g h = g .0
+goods-at n (t ∷ ts) (suc k) g h = goods-at n ts k (g .1) (omega (arith, h))
+
+nowhere-both : (a b : Bad) → orElse a b ≡ Nowhere → (a ≡ Nowhere) × (b ≡ Nowhere)
+nowhere-both Nowhere b e = (refl, e)
+nowhere-both (At s) b e = let z : _≡_ {A = ℕ} 0 1 = cc in absurd (omega arith)
+
+goods-in : (n slot : ℕ) (ts : List ℕ) → badIn n slot ts ≡ Nowhere → Goods n ts
+goods-in n slot [] e = tt
+goods-in n slot (t ∷ ts) e = by (goodTarget n t) refl e (λ q. goods-in n slot ts q)
+  where
+    by : (b : Bool) → goodTarget n t ≡ b → pick b (badIn n slot ts) (At (record { number = slot })) ≡ Nowhere → (badIn n slot ts ≡ Nowhere → Goods n ts)
+        → T (goodTarget n t) × Goods n ts
+    by true q e ih = (true-T _ q, ih e)
+    by false q e ih = let z : _≡_ {A = ℕ} 0 1 = cc in absurd (omega arith)
+
+goods-blocks : (n slot : ℕ) (bs : List Block) → firstBad n slot bs ≡ Nowhere → Goods n (targetsOf (flat bs))
+goods-blocks n slot [] e = tt
+goods-blocks n slot (b ∷ bs) e =
+    let next = slot + slotsWide (b .wide) in
+    let q = nowhere-both (badIn n slot (targetsOf (b .code))) (firstBad n next bs) e in
+    rw (targets-append (b .code) (flat bs))
+    (goods-append n (targetsOf (b .code)) (targetsOf (flat bs)) (goods-in n slot (targetsOf (b .code)) (q .0)) (goods-blocks n next bs (q .1)))
+
+-- the prologue's is the anchor, and the epilogue has none
+pub goods-whole : (n : ℕ) (f : Flags) (bs : List Block) → firstBad n 0 bs ≡ Nowhere → Goods n (targetsOf (whole f bs))
+unfolding goodTarget
+goods-whole n f bs e =
+    rw (targets-append (prologue f) (flat bs ++ epilogue), targets-append (flat bs) epilogue, prologue-targets f, epilogue-targets)
+    (or-true (leb anchor n), goods-append n (targetsOf (flat bs)) [] (goods-blocks n 0 bs e) tt)
+  where
+    or-true : (b : Bool) → T (b || true)
+    or-true true = tt
+    or-true false = tt
+
+-- What is accepted.
+pub record Parts (x : Inputs) (code locs fields targets : List ℕ) : Type 0 where
+  pub blocks : List Block
+  pub walked : walkOf x ≡ done blocks
+  pub origins : Origins 0 blocks
+  pub few : length (locations (x .flags) blocks) ≡ slotsOf (x .program) + 1
+  pub short : size (whole (x .flags) blocks) < 2 ^ 31
+  pub good : Goods (slotsOf (x .program)) (targetsOf (whole (x .flags) blocks))
+  pub is-code : code ≡ codeOf (placeOf (locations (x .flags) blocks) (exitOf (x .flags) blocks)) (whole (x .flags) blocks)
+  pub is-locs : locs ≡ locations (x .flags) blocks
+  pub is-fields : fields ≡ fieldsOf 0 (whole (x .flags) blocks)
+  pub is-targets : targets ≡ targetsOf (whole (x .flags) blocks)
+
+refuses : {A : Type 0} {r : Refusal} {c l f t : List ℕ} → no r ≡ yes c l f t → A
+refuses e = let z : _≡_ {A = ℕ} 0 1 = cc in absurd (omega arith)
+
+module _ (x : Inputs) (given : Given x) (code locs fields targets : List ℕ) where
+  abbrev f : Flags
+  f = x .flags
+
+  parts-blocks : (bs : List Block) → walkOf x ≡ done bs → Origins 0 bs → length code ≤ 86081
+      → firstBad (slotsOf (x .program)) 0 bs ≡ Nowhere
+      → accepted f bs ≡ yes code locs fields targets → Parts x code locs fields targets
+  parts-blocks bs w o l g e =
+      let place = placeOf (locations f bs) (exitOf f bs) in
+      let c : code ≡ codeOf place (whole f bs) = cc in
+      let n : length (codeOf place (whole f bs)) ≡ size (whole f bs) = length-bytes place 0 (whole f bs) in
+      record {
+        blocks = bs;
+        walked = w;
+        origins = o;
+        few = length-locations f bs ∙ rw (all-slots x bs w);
+        short = omega (arith, n, ap length c);
+        good = goods-whole (slotsOf (x .program)) f bs g;
+        is-code = c;
+        is-locs = cc;
+        is-fields = cc;
+        is-targets = cc;
+      }
+
+  parts-finish : (w : Walk) → walkOf x ≡ w → Came 0 w → length code ≤ 86081
+      → finish f (slotsOf (x .program)) (x .page) w ≡ yes code locs fields targets → Parts x code locs fields targets
+  parts-finish (refused r) q o l e = refuses e
+  parts-finish (done bs) q o l e = by (leb (size (whole f bs)) (x .page)) (firstBad (slotsOf (x .program)) 0 bs) refl e
+    where
+      by : (t : Bool) (b : Bad) → firstBad (slotsOf (x .program)) 0 bs ≡ b
+          → pick t (unlessBad b (accepted f bs)) (no (Refusal.NoRoom (record { number = slotsOf (x .program) }))) ≡ yes code locs fields targets → Parts x code locs fields targets
+      by true Nowhere g e = parts-blocks bs q o l g e
+      by true (At s) g e = refuses e
+      by false b g e = refuses e
+
+  bounded : translationOf x ≡ yes code locs fields targets → length code ≤ 86081
+  bounded e = let b = bounds x in let h : Bound x (yes code locs fields targets) = rw e at b in h .all
+
+  pub parts : translationOf x ≡ yes code locs fields targets → Parts x code locs fields targets
+  unfolding translationOf sizesOf
+  parts e =
+      by (ltb (x .page) shortestPage) (ltb longestPage (x .page)) (ltb longestProgram (length (x .program))) refl
+      (leb (x .locations) n || (leb (x .fields) n || leb (x .targets) n)) (badHelpers (x .ids) (x .addresses)) e
+    where
+      n : ℕ
+      n = slotsOf (x .program)
+
+      all : Outcome
+      all = finish f n (x .page) (walkOf x)
+
+      long : length code ≤ 86081
+      long = bounded e
+
+      by : (a b c : Bool) → ltb longestProgram (length (x .program)) ≡ c → (d h : Bool)
+          → pick a (no Refusal.PageTooShort) (pick b (no Refusal.PageTooLong) (pick c (no Refusal.ProgramTooLong) (pick d (no Refusal.TableTooShort) (pick h (no Refusal.BadHelpers) all)))) ≡ yes code locs fields targets
+          → Parts x code locs fields targets
+      by true b c q d h e = refuses e
+      by false true c q d h e = refuses e
+      by false false true q d h e = refuses e
+      by false false false q true h e = refuses e
+      by false false false q false true e = refuses e
+      by false false false q false false e =
+          parts-finish (walkOf x) refl (came-rest x given (ltb-false longestProgram (length (x .program)) q) (suc n) 0 (size (prologue f))) long e

@@ -1,0 +1,1 @@
+// The processor model and demand 3: definitions and theorems only (specs/).
