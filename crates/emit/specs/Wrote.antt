@@ -20,7 +20,7 @@ pub nothing : {l : List ℕ} {at : ℕ} → Wrote l l at at []
 nothing {l} {at} = record { next = omega arith; head = sym (append-nil (take at l)); tail = refl }
 
 -- one emitter behind another
-later : (l l′ : List ℕ) (j k : ℕ) → j ≤ k → drop j l′ ≡ drop j l → drop k l′ ≡ drop k l
+pub later : (l l′ : List ℕ) (j k : ℕ) → j ≤ k → drop j l′ ≡ drop j l → drop k l′ ≡ drop k l
 later l l′ j k h e = by (k - j) refl
   where
     by : (d : ℕ) → k - j ≡ d → drop k l′ ≡ drop k l

@@ -129,8 +129,8 @@ module _ {program ids addresses : List ℕ} {page start : ℕ} {w : Walk} {bs : 
         enough = omega (arith, s .enough, turn h .1 .0, some);
         inside = omega (arith, sound b e .inside);
         whole =
-          turn h .1 .1
-          ∙ rw (← e, le-leb _ _ g) (joined-joined (bs) (b ∷ []) (rest (turn h .0) program ids addresses page (slot + slotsWide (b .wide)) (place + size (b .code))));
+            turn h .1 .1
+            ∙ rw (← e, le-leb _ _ g) (joined-joined (bs) (b ∷ []) (rest (turn h .0) program ids addresses page (slot + slotsWide (b .wide)) (place + size (b .code))));
         place-is = rw (flat-snoc (bs) b, size-append (flat (bs)) (b .code)) (omega (arith, s .place-is));
         slots-are = rw (slots-snoc (bs) b) (omega (arith, s .slots-are));
         room = g;

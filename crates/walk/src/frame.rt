@@ -7,8 +7,9 @@ ghost use Rattle.x86.specs.Code.{blanks, size};
 ghost use Rattle.emit.specs.Wrote.{Wrote};
 ghost use Rattle.jit.specs.Frame.{saves, packetStart, packetEnd, argument, enter, prologue, epilogue};
 ghost use Rattle.slots.specs.Emits.{Emits, Room};
-
-use base::{Position, Size, Width};
+use base::Position;
+use base::Size;
+use base::Width;
 use jit::Flags;
 use slots::emission;
 use slots::emission::Emission;
@@ -70,14 +71,27 @@ fn emit_enter(code: &mut [u8], fields: &mut [u32], targets: &mut [u32], e: Emiss
     emission::record_jump(fields, targets, d, e.jumps, 1000001)
 }
 
-pub fn emit_prologue(code: &mut [u8], fields: &mut [u32], targets: &mut [u32], flags: Flags) -> Emission
+pub fn emit_prologue(
+    code: &mut [u8],
+    fields: &mut [u32],
+    targets: &mut [u32],
+    flags: Flags,
+) -> Emission
     requires { ⌜ Room (now code) (now fields) (now targets) 0 0 (prologue flags) ⌝ }
     ensures { λ r. ⌜ Emits (now (code .entry)) (now (code .exit)) (now (fields .entry)) (now (fields .exit)) (now (targets .entry)) (now (targets .exit)) 0 0 (r .at .offset) (r .jumps) (prologue flags) ⌝ }
 {
     let saved = emit_saves(code, Position { offset: 0 });
     let kept = emit::alu::emit_alu(code, saved, Width::W64, 0x89, 2, 10);
     let argued = emit_argument(code, kept, flags);
-    emit_enter(code, fields, targets, Emission { at: argued, jumps: 0 })
+    emit_enter(
+        code,
+        fields,
+        targets,
+        Emission {
+            at: argued,
+            jumps: 0,
+        },
+    )
 }
 
 // Sixteen bytes in two words, and none behind them: add rsp, 512; pop r15, r14, r13, rbx, rbp; ret.

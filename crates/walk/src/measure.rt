@@ -9,15 +9,16 @@ ghost use Rattle.base.specs.Pick.{pick};
 ghost use Rattle.jit.specs.Slots.{slotCode};
 ghost use Rattle.jit.specs.Translation.{goodTarget, orElse, badIn, rest, wideKind, slotsWide};
 ghost use Rattle.walk.specs.Measures.{Measures, Answers, targetsIn};
-
-use base::{Position, Slot};
+use crate::step;
+use crate::step::Stepped;
+use base::Position;
+use base::Slot;
 use ebpf::insn::Insn;
 use ebpf::kind;
 use ebpf::kind::Kind;
-use jit::{Bad, Refusal};
+use jit::Bad;
+use jit::Refusal;
 use slots::emission::Emission;
-use crate::step;
-use crate::step::Stepped;
 
 // How long a slot's code is, and its jump, if there is one.
 pub struct Length {
@@ -32,15 +33,21 @@ pub enum Measured {
 }
 
 // The scratch is 64 bytes and one entry of each table.
-fn slot_length(code: &mut [u8], fields: &mut [u32], targets: &mut [u32], kind: Kind, slot: Slot, i: Insn, value: u64) -> Length
+fn slot_length(
+    code: &mut [u8],
+    fields: &mut [u32],
+    targets: &mut [u32],
+    kind: Kind,
+    slot: Slot,
+    i: Insn,
+    value: u64,
+) -> Length
     requires { ⌜ (length (now code) ≡ 64) × ((length (now fields) ≡ 1) × (length (now targets) ≡ 1)) ⌝ }
     requires { ⌜ (i .dst < 11) × ((i .src < 11) × (slot .number < 2 ^ 16)) ⌝ }
     ensures { λ r. ⌜ Measures (r .size) (r .jumps) (r .target) (slotCode kind (slot .number) i value) ⌝ }
 {
     let start = Emission {
-        at: Position {
-            offset: 0,
-        },
+        at: Position { offset: 0 },
         jumps: 0,
     };
     let e = slots::slot::emit_slot(code, fields, targets, start, kind, slot, i, value);
@@ -115,9 +122,7 @@ pub fn measure(prog: &[u8], ids: &[u32], addresses: &[u64], page: usize, start: 
     let mut jumps: usize = 1;
     let mut bad = Bad::Nowhere;
     while 8 * slot < prog.len() {
-        let here = Slot {
-            number: slot,
-        };
+        let here = Slot { number: slot };
         match step::step(&kinds, prog, ids, addresses, here) {
             Stepped::Stop(refusal) => {
                 return Measured::Refused(refusal);

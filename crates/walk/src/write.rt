@@ -6,14 +6,14 @@ ghost use lib.ListN.{length};
 ghost use Rattle.jit.specs.Translation.{entries, rest, wideKind, slotsWide};
 ghost use Rattle.slots.specs.Emits.{Put};
 ghost use Rattle.walk.specs.Writes.{Fitting, Writes};
-
-use base::{Position, Slot};
-use ebpf::kind;
-use ebpf::kind::Kind;
-use slots::emission::Emission;
 use crate::measure;
 use crate::step;
 use crate::step::Stepped;
+use base::Position;
+use base::Slot;
+use ebpf::kind;
+use ebpf::kind::Kind;
+use slots::emission::Emission;
 
 // A slot's location entries: its place, and 0 for a second half. The answer is the next slot.
 fn put_slot(locations: &mut [u32], slot: usize, at: usize, kind: Kind) -> usize
@@ -47,15 +47,11 @@ pub fn write_slots(
     let kinds = kind::KINDS;
     let mut slot: usize = 0;
     let mut e = Emission {
-        at: Position {
-            offset: start,
-        },
+        at: Position { offset: start },
         jumps: 1,
     };
     while 8 * slot < prog.len() {
-        let here = Slot {
-            number: slot,
-        };
+        let here = Slot { number: slot };
         match step::step(&kinds, prog, ids, addresses, here) {
             Stepped::Stop(_) => {
                 return;

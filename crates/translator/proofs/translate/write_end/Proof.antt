@@ -1,0 +1,44 @@
+use lib.ListN.{length, length-set}
+use borrow.Author.Tests.{lt-ltb, le-ltb, le-leb, lt-leb, eq-eqb, ne-eqb}
+use mathlib.Core.Path.{_≡_, refl, sym, _∙_}
+use native.Mathlib.Omega.{arith}
+use borrow.Author.Needs.{needs}
+use Rattle.translator.proofs.translate.write_end.Statement.{statement}
+use Rattle.translator.proofs.translate.write_end.Tie as tie
+
+emit-epilogue-requires : tie.Need-emit-epilogue-requires
+emit-epilogue-requires c κs = search needs
+
+mul-locations : tie.Need-mul-locations
+mul-locations c = search needs
+
+slice-write-locations : tie.Need-slice-write-locations
+slice-write-locations c = search needs
+
+cast-resolve-jumps : tie.Need-cast-resolve-jumps
+cast-resolve-jumps c = search needs
+
+resolve-jumps-requires : tie.Need-resolve-jumps-requires
+resolve-jumps-requires c κs = ((simp length-set (omega (arith, c .before .before .before .before .before .before .before .before .before .before .pre .0)), (c .before .before .before .before .before .before .before .before .before .before .pre .0 .1 .1 .1 .0, c .before .before .before .before .before .before .before .before .before .before .pre .0 .1 .1 .1 .1)), λ k h. omega (arith, c .before .before .before .before .before .before .before .before .before .before .pre .1 k h))
+
+same-length : tie.Need-same-length
+same-length c = search needs
+
+same-length-2 : tie.Need-same-length-2
+same-length-2 c = search needs
+
+returns : tie.Need-returns
+returns c = record { locations = refl; code = c .before .before .resolve-jumps .ensures ∙ rw (c .before .before .before .before .before .before .before .emit-epilogue .ensures) }
+
+pub write-end-spec : {M : Type 1} → statement M
+write-end-spec =
+    tie.close
+    (tie.spec
+    emit-epilogue-requires
+    mul-locations
+    slice-write-locations
+    cast-resolve-jumps
+    resolve-jumps-requires
+    same-length
+    same-length-2
+    returns)

@@ -1,0 +1,143 @@
+// The one function that a user calls: every program, pair of flags, helper lists and set of lent buffers gets finished code or one refusal.
+ghost use mathlib.Core.Path.{_≡_};
+ghost use Prim.Native.Nat.{ℕ, suc, _+_, _/_, _≤_, _<_};
+ghost use lib.ListN.{length, getD};
+ghost use Rattle.x86.specs.Code.{size};
+ghost use Rattle.jit.specs.Frame.{prologue};
+ghost use Rattle.jit.specs.Translation.{Inputs, rest, translationOf};
+ghost use Rattle.walk.specs.Writes.{Fitting};
+ghost use Rattle.translator.specs.Translated.{Begun, Ended, Translated};
+use crate::sizes::Sized;
+use base::Slot;
+use jit::Bad;
+use jit::Flags;
+use jit::Refusal;
+use walk::measure::Measured;
+
+pub enum Answer {
+    Accepted { length: usize, jumps: usize },
+    Refused(Refusal),
+}
+
+fn prologue_size(flags: Flags) -> usize
+    ensures { λ r. ⌜ (r ≡ size (prologue flags)) × (r ≤ 49) ⌝ }
+{
+    if flags.use_mbuff {
+        if flags.update_data_ptr {
+            return 49;
+        }
+        return 31;
+    }
+    34
+}
+
+// The prologue and the slots of a program that is accepted.
+fn write_begin(
+    prog: &[u8],
+    flags: Flags,
+    ids: &[u32],
+    addresses: &[u64],
+    page: usize,
+    start: usize,
+    code: &mut [u8],
+    locations: &mut [u32],
+    fields: &mut [u32],
+    targets: &mut [u32],
+)
+    requires { ⌜ (length (now prog) ≤ 16384) × ((page ≤ 131072) × ((start ≤ page) × (length (now ids) ≡ length (now addresses)))) ⌝ }
+    requires { ⌜ Fitting (rest (suc (length (now prog) / 8)) (now prog) (now ids) (now addresses) page 0 start) page start (now code) (now locations) (now fields) (now targets) (length (now prog) / 8) ⌝ }
+    requires { ⌜ (start ≡ size (prologue flags)) × ((start ≤ 49) × (4096 ≤ page)) ⌝ }
+    ensures { λ _. ⌜ Begun (rest (suc (length (now (prog .entry)) / 8)) (now (prog .entry)) (now (ids .entry)) (now (addresses .entry)) page 0 start) flags (now (code .entry)) (now (code .exit)) (now (locations .entry)) (now (locations .exit)) (now (fields .entry)) (now (fields .exit)) (now (targets .entry)) (now (targets .exit)) ⌝ }
+{
+    walk::frame::emit_prologue(code, fields, targets, flags);
+    walk::write::write_slots(
+        prog,
+        ids,
+        addresses,
+        page,
+        start,
+        code,
+        locations,
+        fields,
+        targets,
+    );
+}
+
+// The epilogue at `end`, location n, and the fields.
+fn write_end(
+    code: &mut [u8],
+    locations: &mut [u32],
+    fields: &[u32],
+    targets: &[u32],
+    n: usize,
+    end: usize,
+    jumps: usize,
+)
+    requires { ⌜ (end + 16 ≤ length (now code)) × ((length (now code) ≤ 131072) × ((n < length (now locations)) × ((jumps ≤ length (now fields)) × (jumps ≤ length (now targets))))) ⌝ }
+    requires { ⌜ ((k : ℕ) → k < jumps → getD (now fields) k 0 + 4 ≤ length (now code)) ⌝ }
+    ensures { λ _. ⌜ Ended n end jumps (now (code .entry)) (now (code .exit)) (now (locations .entry)) (now (locations .exit)) (now (fields .entry)) (now (targets .entry)) ⌝ }
+{
+    walk::frame::emit_epilogue(code, end);
+    locations[n] = 0;
+    crate::resolve::resolve_jumps(code, locations, n, fields, targets, end as u32, jumps);
+}
+
+// The answer and the contents at exit of what is lent are what `translationOf` gives on the contents at entry (specs/Translated.antt): accepted,
+// the code, locations, fields and targets at the head, everything behind as it was; refused, everything as it was.
+pub fn translate(
+    prog: &[u8],
+    flags: Flags,
+    ids: &[u32],
+    addresses: &[u64],
+    code: &mut [u8],
+    locations: &mut [u32],
+    fields: &mut [u32],
+    targets: &mut [u32],
+) -> Answer
+    ensures { λ r. ⌜ Translated (translationOf (record { program = now (prog .entry); flags = flags; ids = now (ids .entry); addresses = now (addresses .entry); page = length (now (code .entry)); locations = length (now (locations .entry)); fields = length (now (fields .entry)); targets = length (now (targets .entry)) })) (now (code .entry)) (now (code .exit)) (now (locations .entry)) (now (locations .exit)) (now (fields .entry)) (now (fields .exit)) (now (targets .entry)) (now (targets .exit)) r ⌝ }
+{
+    let page = code.len();
+    let n = prog.len() / 8;
+    match crate::sizes::sizes(
+        prog.len(),
+        page,
+        locations.len(),
+        fields.len(),
+        targets.len(),
+        ids,
+        addresses.len(),
+    ) {
+        Sized::Not(refusal) => Answer::Refused(refusal),
+        Sized::Good => {
+            let start = prologue_size(flags);
+            match walk::measure::measure(prog, ids, addresses, page, start) {
+                Measured::Refused(refusal) => Answer::Refused(refusal),
+                Measured::Done { end, jumps, bad } => {
+                    if page < end + 16 {
+                        return Answer::Refused(Refusal::NoRoom(Slot { number: n }));
+                    }
+                    if let Bad::At(slot) = bad {
+                        return Answer::Refused(Refusal::BadTarget(slot));
+                    }
+                    write_begin(
+                        prog,
+                        flags,
+                        ids,
+                        addresses,
+                        page,
+                        start,
+                        code,
+                        locations,
+                        fields,
+                        targets,
+                    );
+                    write_end(code, locations, fields, targets, n, end, jumps);
+                    Answer::Accepted {
+                        length: end + 16,
+                        jumps: jumps,
+                    }
+                }
+            }
+        }
+    }
+}
