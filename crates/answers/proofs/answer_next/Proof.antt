@@ -1,0 +1,184 @@
+use native.Mathlib.Omega.{arith}
+use lib.ListN.{length-drop}
+use borrow.Author.Needs.{needs}
+use Rattle.answers.proofs.answer_next.Statement.{statement}
+use Rattle.answers.proofs.answer_next.Tie as tie
+use Rattle.answers.proofs.answer_next.Reads as reads
+use Rattle.answers.proofs.answer_next.Lts as lts
+use Rattle.answers.proofs.flushed.Reads as flushed-reads
+use Rattle.answers.proofs.last.Reads as last-reads
+use Rattle.answers.proofs.made_room.Reads as made-room-reads
+use Rattle.answers.proofs.say_why.Reads as say-why-reads
+use Rattle.cases.proofs.problem.is_nothing.Reads as is-nothing-reads
+use Rattle.cases.proofs.run.run_next.Reads as run-next-reads
+use Rattle.cases.proofs.stream.is_at_hand.Reads as is-at-hand-reads
+
+-- src/main.rt:86:41
+is-at-hand-requires : tie.Need-is-at-hand-requires
+is-at-hand-requires c κs = search needs
+
+-- src/main.rt:86:9
+made-room-requires : tie.Need-made-room-requires
+made-room-requires c κs = search needs
+
+-- src/main.rt:89:9
+last-requires : tie.Need-last-requires
+last-requires c κs = search needs
+
+-- src/main.rt:89:9
+same-length : tie.Need-same-length
+same-length c = search needs
+
+-- src/main.rt:89:9
+same-length-2 : tie.Need-same-length-2
+same-length-2 c = search needs
+
+-- src/main.rt:89:9
+returns : tie.Need-returns
+returns c = search needs
+
+-- src/main.rt:91:113
+sub-run-next : tie.Need-sub-run-next
+sub-run-next c = search needs
+
+-- src/main.rt:91:113
+part-run-next-start : tie.Need-part-run-next-start
+part-run-next-start c = search needs
+
+-- src/main.rt:91:113
+part-run-next-end : tie.Need-part-run-next-end
+part-run-next-end c = search needs
+
+-- src/main.rt:91:9
+run-next-requires : tie.Need-run-next-requires
+run-next-requires c κs = search needs
+
+-- src/main.rt:93:9
+is-nothing-requires : tie.Need-is-nothing-requires
+is-nothing-requires c κs = search needs
+
+-- src/main.rt:94:9
+flushed-requires : tie.Need-flushed-requires
+flushed-requires c κs = search needs
+
+-- src/main.rt:95:9
+say-why-requires : tie.Need-say-why-requires
+say-why-requires c κs = search needs
+
+-- src/main.rt:96:9
+last-requires-2 : tie.Need-last-requires-2
+last-requires-2 c κs = search needs
+
+-- src/main.rt:96:9
+same-length-3 : tie.Need-same-length-3
+same-length-3 c = search needs
+
+-- src/main.rt:96:9
+same-length-4 : tie.Need-same-length-4
+same-length-4 c = search needs
+
+-- src/main.rt:96:9
+same-length-5 : tie.Need-same-length-5
+same-length-5 c = search needs
+
+-- src/main.rt:96:9
+same-length-6 : tie.Need-same-length-6
+same-length-6 c = search needs
+
+-- src/main.rt:96:9
+same-length-7 : tie.Need-same-length-7
+same-length-7 c = search needs
+
+-- src/main.rt:96:9
+same-length-8 : tie.Need-same-length-8
+same-length-8 c = search needs
+
+-- src/main.rt:96:9
+same-length-9 : tie.Need-same-length-9
+same-length-9 c = search needs
+
+-- src/main.rt:96:9
+same-length-10 : tie.Need-same-length-10
+same-length-10 c = search needs
+
+-- src/main.rt:96:9
+returns-2 : tie.Need-returns-2
+returns-2 c = search needs
+
+-- src/main.rt:102:13
+add-t37 : tie.Need-add-t37
+add-t37 c = omega (arith, c .before .before .before .before .before .before .before .before .before .before .before .before .before .before .before .before .before .before .before .run-next .ensures .1 .1, c .before .before .before .before .before .before .before .before .before .before .before .before .before .before .before .before .before .before .before .run-next .kept .1 .1 .1 .1 .1 .1 .1 .1 .1 .1 .0, c .before .before .before .before .before .before .before .before .before .before .before .before .before .before .before .before .before .before .before .before .run-next-arg8 .given, c .before .before .before .before .before .before .before .before .before .before .before .before .before .before .before .before .before .before .before .before .before .before .before .before .before .before .before .before .before .made-room .ensures, c .before .before .before .before .before .before .before .before .before .before .before .before .before .before .before .before .before .before .before .before .before .before .before .before .before .before .before .before .before .before .before .before .before .before .before .before .before .before .before .before .before .good .1 .1 .1 .1 .0)
+
+-- src/main.rt:82:1
+same-length-11 : tie.Need-same-length-11
+same-length-11 c = search needs
+
+-- src/main.rt:82:1
+same-length-12 : tie.Need-same-length-12
+same-length-12 c = search needs
+
+-- src/main.rt:82:1
+same-length-13 : tie.Need-same-length-13
+same-length-13 c = search needs
+
+-- src/main.rt:82:1
+same-length-14 : tie.Need-same-length-14
+same-length-14 c = search needs
+
+-- src/main.rt:82:1
+same-length-15 : tie.Need-same-length-15
+same-length-15 c = search needs
+
+-- src/main.rt:82:1
+same-length-16 : tie.Need-same-length-16
+same-length-16 c = search needs
+
+-- src/main.rt:82:1
+same-length-17 : tie.Need-same-length-17
+same-length-17 c = search needs
+
+-- src/main.rt:82:1
+same-length-18 : tie.Need-same-length-18
+same-length-18 c = search needs
+
+-- src/main.rt:82:1
+returns-3 : tie.Need-returns-3
+returns-3 c = search needs
+
+pub answer-next-spec : {M : Type 1} → statement M
+answer-next-spec =
+    tie.close
+    (tie.spec
+    is-at-hand-requires
+    made-room-requires
+    last-requires
+    same-length
+    same-length-2
+    returns
+    sub-run-next
+    part-run-next-start
+    part-run-next-end
+    run-next-requires
+    is-nothing-requires
+    flushed-requires
+    say-why-requires
+    last-requires-2
+    same-length-3
+    same-length-4
+    same-length-5
+    same-length-6
+    same-length-7
+    same-length-8
+    same-length-9
+    same-length-10
+    returns-2
+    add-t37
+    same-length-11
+    same-length-12
+    same-length-13
+    same-length-14
+    same-length-15
+    same-length-16
+    same-length-17
+    same-length-18
+    returns-3)

@@ -1,0 +1,64 @@
+use Prim.Native.Nat.{ℕ, _+_, _*_, _-_, _≤_, _<_}
+use mathlib.Core.Path.{_≡_, _∙_}
+use native.Mathlib.Omega.{arith}
+use borrow.Author.Needs.{needs}
+use lib.ListN.{length, length-set, getD}
+use Rattle.cases.specs.Marks.{markAt, tableMarkAt, Marked, Upto, Between, upto-more, between-more}
+use Rattle.cases.proofs.marks.page_kept.Statement.{statement}
+use Rattle.cases.proofs.marks.page_kept.Tie as tie
+use Rattle.cases.proofs.marks.page_kept.Reads as reads
+use Rattle.cases.proofs.marks.page_kept.Lts as lts
+use Rattle.cases.proofs.marks.mark.Reads as mark-reads
+
+abbrev Inv-loop : tie.InvT-loop
+Inv-loop page from i₀ i = Between markAt from i page
+
+abbrev μ-loop : tie.MeasureT-loop
+μ-loop page from i₀ i = length page - i
+
+-- src/marks.rt:47:5
+loop-holds : tie.Need-loop-holds Inv-loop μ-loop
+loop-holds c = search needs
+
+-- src/marks.rt:48:12
+shared-slice-read-if1 : tie.Need-shared-slice-read-if1 Inv-loop μ-loop
+shared-slice-read-if1 c = search needs
+
+-- src/marks.rt:48:23
+mark-requires : tie.Need-mark-requires Inv-loop μ-loop
+mark-requires c κs = search needs
+
+-- src/marks.rt:49:13
+returns : tie.Need-returns Inv-loop μ-loop
+returns c = λ e k after below. let z : _≡_ {A = ℕ} 0 1 = cc in omega arith
+
+-- src/marks.rt:51:9
+add-i : tie.Need-add-i Inv-loop μ-loop
+add-i c = search needs
+
+-- src/marks.rt:47:5
+loop-less : tie.Need-loop-less Inv-loop μ-loop
+loop-less c = search needs
+
+-- src/marks.rt:47:5
+loop-again : tie.Need-loop-again Inv-loop μ-loop
+loop-again c = between-more markAt (c .before .before .before .before .before .before .args .page .now) (c .before .before .before .before .before .before .args .from) (c .before .before .before .before .loop .i) (c .if1 .left ∙ c .before .mark .ensures) (c .before .before .before .before .loop .inv)
+
+-- src/marks.rt:43:1
+returns-2 : tie.Need-returns-2 Inv-loop μ-loop
+returns-2 c = λ e k after below. c .before .loop .inv k after (omega arith)
+
+pub page-kept-spec : {M : Type 1} → statement M
+page-kept-spec =
+    tie.close
+    (tie.spec
+    Inv-loop
+    μ-loop
+    loop-holds
+    shared-slice-read-if1
+    mark-requires
+    returns
+    add-i
+    loop-less
+    loop-again
+    returns-2)

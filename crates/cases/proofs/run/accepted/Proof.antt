@@ -1,0 +1,241 @@
+use lib.Seq.{length-take-le}
+use lib.ListN.{length}
+use native.Mathlib.Omega.{arith}
+use mathlib.Core.Path.{sym}
+use borrow.Author.Needs.{needs}
+use Rattle.cases.proofs.run.accepted.Statement.{statement}
+use Rattle.cases.proofs.run.accepted.Tie as tie
+use Rattle.cases.proofs.run.accepted.Reads as reads
+use Rattle.cases.proofs.run.accepted.Lts as lts
+use Rattle.cases.proofs.answer.put_accepted.Reads as put-accepted-reads
+use Rattle.cases.proofs.marks.mark_page.Reads as mark-page-reads
+use Rattle.cases.proofs.marks.mark_table.Reads as mark-table-reads
+use Rattle.cases.proofs.problem.is_nothing.Reads as is-nothing-reads
+use Rattle.cases.proofs.run.changed.Reads as changed-reads
+use Rattle.cases.proofs.run.no_reply.Reads as no-reply-reads
+use Rattle.cases.proofs.run.reply_of.Reads as reply-of-reads
+
+-- src/run.rt:82:9
+no-reply-requires : tie.Need-no-reply-requires
+no-reply-requires c κs = search needs
+
+-- src/run.rt:82:9
+returns : tie.Need-returns
+returns c = search needs
+
+-- src/run.rt:85:9
+no-reply-requires-2 : tie.Need-no-reply-requires-2
+no-reply-requires-2 c κs = search needs
+
+-- src/run.rt:85:9
+returns-2 : tie.Need-returns-2
+returns-2 c = search needs
+
+-- src/run.rt:88:9
+no-reply-requires-3 : tie.Need-no-reply-requires-3
+no-reply-requires-3 c κs = search needs
+
+-- src/run.rt:88:9
+returns-3 : tie.Need-returns-3
+returns-3 c = search needs
+
+-- src/run.rt:91:9
+no-reply-requires-4 : tie.Need-no-reply-requires-4
+no-reply-requires-4 c κs = search needs
+
+-- src/run.rt:91:9
+returns-4 : tie.Need-returns-4
+returns-4 c = search needs
+
+-- src/run.rt:93:9
+changed-requires : tie.Need-changed-requires
+changed-requires c κs = search needs
+
+-- src/run.rt:94:9
+is-nothing-requires : tie.Need-is-nothing-requires
+is-nothing-requires c κs = search needs
+
+-- src/run.rt:95:9
+no-reply-requires-5 : tie.Need-no-reply-requires-5
+no-reply-requires-5 c κs = search needs
+
+-- src/run.rt:95:9
+same-length : tie.Need-same-length
+same-length c = search needs
+
+-- src/run.rt:95:9
+same-length-2 : tie.Need-same-length-2
+same-length-2 c = search needs
+
+-- src/run.rt:95:9
+same-length-3 : tie.Need-same-length-3
+same-length-3 c = search needs
+
+-- src/run.rt:95:9
+same-length-4 : tie.Need-same-length-4
+same-length-4 c = search needs
+
+-- src/run.rt:95:9
+returns-5 : tie.Need-returns-5
+returns-5 c = search needs
+
+-- src/run.rt:97:42
+slice-reshare-prefix-put-accepted : tie.Need-slice-reshare-prefix-put-accepted
+slice-reshare-prefix-put-accepted c = search needs
+
+-- src/run.rt:97:42
+slice-aggregate-put-accepted : tie.Need-slice-aggregate-put-accepted
+slice-aggregate-put-accepted c = simp (length-take-le, c .before .before .before .before .before .before .before .before .before .before .before .before .if1 .left)
+
+-- src/run.rt:97:56
+slice-reshare-prefix-put-accepted-2 : tie.Need-slice-reshare-prefix-put-accepted-2
+slice-reshare-prefix-put-accepted-2 c = search needs
+
+-- src/run.rt:97:56
+slice-aggregate-put-accepted-2 : tie.Need-slice-aggregate-put-accepted-2
+slice-aggregate-put-accepted-2 c = simp (length-take-le, c .before .before .before .before .before .before .before .before .before .before .before .before .if2 .left)
+
+-- src/run.rt:97:76
+slice-reshare-prefix-put-accepted-3 : tie.Need-slice-reshare-prefix-put-accepted-3
+slice-reshare-prefix-put-accepted-3 c = search needs
+
+-- src/run.rt:97:76
+slice-aggregate-put-accepted-3 : tie.Need-slice-aggregate-put-accepted-3
+slice-aggregate-put-accepted-3 c = simp (length-take-le, c .before .before .before .before .before .before .before .before .before .before .before .before .if3 .left)
+
+-- src/run.rt:97:94
+slice-reshare-prefix-put-accepted-4 : tie.Need-slice-reshare-prefix-put-accepted-4
+slice-reshare-prefix-put-accepted-4 c = search needs
+
+-- src/run.rt:97:94
+slice-aggregate-put-accepted-4 : tie.Need-slice-aggregate-put-accepted-4
+slice-aggregate-put-accepted-4 c = simp (length-take-le, c .before .before .before .before .before .before .before .before .before .before .before .before .if4 .left)
+
+-- src/run.rt:97:9
+put-accepted-requires : tie.Need-put-accepted-requires
+put-accepted-requires c κs = search needs
+
+-- src/run.rt:98:22
+slice-relend-prefix-mark-page : tie.Need-slice-relend-prefix-mark-page
+slice-relend-prefix-mark-page c = search needs
+
+-- src/run.rt:98:22
+slice-aggregate-mark-page : tie.Need-slice-aggregate-mark-page
+slice-aggregate-mark-page c = simp (length-take-le, c .before .before .before .before .before .before .before .before .before .before .before .before .before .before .before .before .before .before .before .if1 .left)
+
+-- src/run.rt:98:5
+mark-page-requires : tie.Need-mark-page-requires
+mark-page-requires c κs = search needs
+
+-- src/run.rt:99:23
+slice-relend-prefix-mark-table : tie.Need-slice-relend-prefix-mark-table
+slice-relend-prefix-mark-table c = search needs
+
+-- src/run.rt:99:23
+slice-aggregate-mark-table : tie.Need-slice-aggregate-mark-table
+slice-aggregate-mark-table c = simp (length-take-le, c .before .before .before .before .before .before .before .before .before .before .before .before .before .before .before .before .before .before .before .before .before .before .if2 .left)
+
+-- src/run.rt:99:5
+mark-table-requires : tie.Need-mark-table-requires
+mark-table-requires c κs = search needs
+
+-- src/run.rt:100:23
+slice-relend-prefix-mark-table-2 : tie.Need-slice-relend-prefix-mark-table-2
+slice-relend-prefix-mark-table-2 c = search needs
+
+-- src/run.rt:100:23
+slice-aggregate-mark-table-2 : tie.Need-slice-aggregate-mark-table-2
+slice-aggregate-mark-table-2 c = simp (length-take-le, c .before .before .before .before .before .before .before .before .before .before .before .before .before .before .before .before .before .before .before .before .before .before .before .before .before .if3 .left)
+
+-- src/run.rt:100:5
+mark-table-requires-2 : tie.Need-mark-table-requires-2
+mark-table-requires-2 c κs = search needs
+
+-- src/run.rt:101:23
+slice-relend-prefix-mark-table-3 : tie.Need-slice-relend-prefix-mark-table-3
+slice-relend-prefix-mark-table-3 c = search needs
+
+-- src/run.rt:101:23
+slice-aggregate-mark-table-3 : tie.Need-slice-aggregate-mark-table-3
+slice-aggregate-mark-table-3 c = simp (length-take-le, c .before .before .before .before .before .before .before .before .before .before .before .before .before .before .before .before .before .before .before .before .before .before .before .before .before .before .before .before .if4 .left)
+
+-- src/run.rt:101:5
+mark-table-requires-3 : tie.Need-mark-table-requires-3
+mark-table-requires-3 c κs = search needs
+
+-- src/run.rt:102:5
+reply-of-requires : tie.Need-reply-of-requires
+reply-of-requires c κs = search needs
+
+-- src/run.rt:78:1
+same-length-5 : tie.Need-same-length-5
+same-length-5 c = search needs
+
+-- src/run.rt:78:1
+same-length-6 : tie.Need-same-length-6
+same-length-6 c = search needs
+
+-- src/run.rt:78:1
+same-length-7 : tie.Need-same-length-7
+same-length-7 c = search needs
+
+-- src/run.rt:78:1
+same-length-8 : tie.Need-same-length-8
+same-length-8 c = search needs
+
+-- src/run.rt:78:1
+same-length-9 : tie.Need-same-length-9
+same-length-9 c = search needs
+
+-- src/run.rt:78:1
+returns-6 : tie.Need-returns-6
+returns-6 c = search needs
+
+pub accepted-spec : {M : Type 1} → statement M
+accepted-spec =
+    tie.close
+    (tie.spec
+    no-reply-requires
+    returns
+    no-reply-requires-2
+    returns-2
+    no-reply-requires-3
+    returns-3
+    no-reply-requires-4
+    returns-4
+    changed-requires
+    is-nothing-requires
+    no-reply-requires-5
+    same-length
+    same-length-2
+    same-length-3
+    same-length-4
+    returns-5
+    slice-reshare-prefix-put-accepted
+    slice-aggregate-put-accepted
+    slice-reshare-prefix-put-accepted-2
+    slice-aggregate-put-accepted-2
+    slice-reshare-prefix-put-accepted-3
+    slice-aggregate-put-accepted-3
+    slice-reshare-prefix-put-accepted-4
+    slice-aggregate-put-accepted-4
+    put-accepted-requires
+    slice-relend-prefix-mark-page
+    slice-aggregate-mark-page
+    mark-page-requires
+    slice-relend-prefix-mark-table
+    slice-aggregate-mark-table
+    mark-table-requires
+    slice-relend-prefix-mark-table-2
+    slice-aggregate-mark-table-2
+    mark-table-requires-2
+    slice-relend-prefix-mark-table-3
+    slice-aggregate-mark-table-3
+    mark-table-requires-3
+    reply-of-requires
+    same-length-5
+    same-length-6
+    same-length-7
+    same-length-8
+    same-length-9
+    returns-6)

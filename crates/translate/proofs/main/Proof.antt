@@ -1,0 +1,59 @@
+use lib.Seq.{length-take-le}
+use borrow.Author.Needs.{needs}
+use Rattle.translate.proofs.main.Statement.{statement}
+use Rattle.translate.proofs.main.Tie as tie
+use Rattle.translate.proofs.main.Reads as reads
+use Rattle.translate.proofs.main.Lts as lts
+use Rattle.cases.proofs.stream.fill.Reads as fill-reads
+use Rattle.os.proofs.fail.Reads as fail-reads
+use Rattle.translate.proofs.answer.Reads as answer-reads
+
+-- src/main.rt:52:43
+slice-aggregate-fill : tie.Need-slice-aggregate-fill
+slice-aggregate-fill c = search needs
+
+-- src/main.rt:52:9
+fill-requires : tie.Need-fill-requires
+fill-requires c κs = search needs
+
+-- src/main.rt:54:18
+slice-aggregate-fail : tie.Need-slice-aggregate-fail
+slice-aggregate-fail c = search needs
+
+-- src/main.rt:54:9
+fail-requires : tie.Need-fail-requires
+fail-requires c κs = search needs
+
+-- src/main.rt:55:9
+returns : tie.Need-returns
+returns c = search needs
+
+-- src/main.rt:58:12
+array-share-prefix-input : tie.Need-array-share-prefix-input
+array-share-prefix-input c = search needs
+
+-- src/main.rt:58:12
+slice-aggregate-answer : tie.Need-slice-aggregate-answer
+slice-aggregate-answer c = simp (length-take-le, c .before .before .before .fill .ensures .1)
+
+-- src/main.rt:58:5
+answer-requires : tie.Need-answer-requires
+answer-requires c κs = search needs
+
+-- src/main.rt:50:1
+returns-2 : tie.Need-returns-2
+returns-2 c = search needs
+
+pub main-spec : {M : Type 1} → statement M
+main-spec =
+    tie.close
+    (tie.spec
+    slice-aggregate-fill
+    fill-requires
+    slice-aggregate-fail
+    fail-requires
+    returns
+    array-share-prefix-input
+    slice-aggregate-answer
+    answer-requires
+    returns-2)
