@@ -1,4 +1,7 @@
 // What can be wrong with a stream, a case or what the translator did, and the sentence that says so.
+ghost use mathlib.Core.Path.{_≡_};
+ghost use lib.Dec.{eqb};
+ghost use Rattle.cases.specs.Problems.{problemNumber};
 use libc::STDERR_FILENO;
 
 pub enum Problem {
@@ -25,20 +28,39 @@ pub enum Problem {
     NoRoom,
 }
 
-pub fn is_nothing(problem: Problem) -> bool {
-    if let Problem::Nothing = problem {
-        true
-    } else {
-        false
+pub fn number_of(problem: Problem) -> u8
+    ensures { λ r. ⌜ r ≡ problemNumber problem ⌝ }
+{
+    match problem {
+        Problem::Nothing => 0,
+        Problem::End => 1,
+        Problem::Unreadable => 2,
+        Problem::Torn => 3,
+        Problem::TooLong => 4,
+        Problem::OtherFlags => 5,
+        Problem::ManyIds => 6,
+        Problem::ManyAddresses => 7,
+        Problem::LongProgram => 8,
+        Problem::Unfilled => 9,
+        Problem::WrongLengths => 10,
+        Problem::PageChanged => 11,
+        Problem::LocationsChanged => 12,
+        Problem::FieldsChanged => 13,
+        Problem::TargetsChanged => 14,
+        Problem::NoRoom => 15,
     }
 }
 
-pub fn is_end(problem: Problem) -> bool {
-    if let Problem::End = problem {
-        true
-    } else {
-        false
-    }
+pub fn is_nothing(problem: Problem) -> bool
+    ensures { λ r. ⌜ r ≡ eqb (problemNumber problem) 0 ⌝ }
+{
+    number_of(problem) == 0
+}
+
+pub fn is_end(problem: Problem) -> bool
+    ensures { λ r. ⌜ r ≡ eqb (problemNumber problem) 1 ⌝ }
+{
+    number_of(problem) == 1
 }
 
 fn say(text: &[u8]) {

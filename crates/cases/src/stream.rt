@@ -2,7 +2,9 @@
 // one at a time, however long the stream is.
 ghost use mathlib.Core.Path.{_≡_};
 ghost use Prim.Native.Nat.{_+_, _≤_};
+ghost use lib.Dec.{leb};
 ghost use lib.ListN.{length};
+ghost use Rattle.ebpf.specs.Insn.{le4};
 use crate::numbers;
 use crate::problem::Problem;
 
@@ -85,11 +87,12 @@ fn widened(fd: i32, buffer: &mut [u8], window: Window, wanted: usize) -> Window
 // Whether the window holds a whole record, so that the next one needs no read.
 pub fn is_at_hand(buffer: &[u8], start: usize, end: usize) -> bool
     requires { ⌜ (start ≤ end) × (end ≤ length (now buffer)) ⌝ }
+    ensures { λ r. ⌜ r ≡ leb (start + 4 + le4 (now (buffer .entry)) start) end ⌝ }
 {
     if end - start < 4 {
         return false;
     }
-    numbers::count_at(buffer, start) <= end - start - 4
+    start + 4 + numbers::count_at(buffer, start) <= end
 }
 
 // The next record of at most `limit` bytes. The buffer has to hold it whole, with its length in front.
