@@ -1,11 +1,12 @@
 // The frame round the slots: the prologue, of three kinds, and the epilogue.
 ghost use mathlib.Core.Path.{_≡_};
-ghost use Prim.Native.Nat.{_+_, _≤_, _<_, _^_};
+ghost use mathlib.Core.List.{_++_};
+ghost use Prim.Native.Nat.{_+_, _≤_};
 ghost use lib.ListN.{length};
 ghost use lib.Seq.{sets};
 ghost use Rattle.x86.specs.Code.{blanks, size};
 ghost use Rattle.emit.specs.Wrote.{Wrote};
-ghost use Rattle.jit.specs.Frame.{saves, packetStart, packetEnd, argument, enter, prologue, epilogue};
+ghost use Rattle.jit.specs.Frame.{saves, keepPacket, packetStart, packetEnd, argument, enter, prologue, epilogue};
 ghost use Rattle.slots.specs.Emits.{Emits, Room};
 use base::Position;
 use base::Size;
@@ -14,15 +15,13 @@ use jit::Flags;
 use slots::emission;
 use slots::emission::Emission;
 
-fn emit_saves(code: &mut [u8], at: Position) -> Position
-    requires { ⌜ at .offset + size saves + 16 ≤ length (now code) ⌝ }
-    ensures { λ r. ⌜ Wrote (now (code .entry)) (now (code .exit)) (at .offset) (r .offset) (blanks saves) ⌝ }
+// What the caller keeps, push rbp, rbx, r13, r14, r15, which is one word; and the packet's address, mov r10, rdx.
+fn emit_saves(code: &mut [u8], at: usize) -> Position
+    requires { ⌜ at + size (saves ++ keepPacket) + 16 ≤ length (now code) ⌝ }
+    ensures { λ r. ⌜ Wrote (now (code .entry)) (now (code .exit)) at (r .offset) (blanks (saves ++ keepPacket)) ⌝ }
 {
-    let a = emit::alu::emit_push(code, at, 5);
-    let b = emit::alu::emit_push(code, a, 3);
-    let c = emit::alu::emit_push(code, b, 13);
-    let d = emit::alu::emit_push(code, c, 14);
-    emit::alu::emit_push(code, d, 15)
+    let next = page::emit_words(code, at, 0x5741564155415355, 0xd28949, 3);
+    Position { offset: next }
 }
 
 // The packet's address goes into the buffer, at RDI + R8.
@@ -80,9 +79,8 @@ pub fn emit_prologue(
     requires { ⌜ Room (now code) (now fields) (now targets) 0 0 (prologue flags) ⌝ }
     ensures { λ r. ⌜ Emits (now (code .entry)) (now (code .exit)) (now (fields .entry)) (now (fields .exit)) (now (targets .entry)) (now (targets .exit)) 0 0 (r .at .offset) (r .jumps) (prologue flags) ⌝ }
 {
-    let saved = emit_saves(code, Position { offset: 0 });
-    let kept = emit::alu::emit_alu(code, saved, Width::W64, 0x89, 2, 10);
-    let argued = emit_argument(code, kept, flags);
+    let saved = emit_saves(code, 0);
+    let argued = emit_argument(code, saved, flags);
     emit_enter(
         code,
         fields,
@@ -99,6 +97,5 @@ pub fn emit_epilogue(code: &mut [u8], at: usize)
     requires { ⌜ at + 16 ≤ length (now code) ⌝ }
     ensures { λ _. ⌜ now (code .exit) ≡ sets (now (code .entry)) at (blanks epilogue) ⌝ }
 {
-    emit::bytes::store8(code, at, 0x4100000200c48148);
-    emit::bytes::store8(code, at + 8, 0xc35d5b5d415e415f);
+    page::emit_words(code, at, 0x4100000200c48148, 0xc35d5b5d415e415f, 8);
 }

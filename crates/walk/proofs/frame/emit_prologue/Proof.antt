@@ -1,31 +1,40 @@
-use Rattle.jit.specs.Frame.{prologue-parts, saves-size, enter-size, no-jumps-before, keepPacket}
-use Rattle.base.specs.declared.Width.the-variants.{W64}
-use Rattle.x86.specs.Code.{blanks-append, length-blanks, size-append}
-use Rattle.x86.specs.Instr.{op, alu, MOV}
-use mathlib.Core.List.{[], _∷_, _++_, append-assoc}
-use Rattle.slots.specs.Emits.{jumped, plainly, emits-then}
-use Rattle.jit.specs.Frame.{saves, packetStart, packetEnd, argument, enter, prologue, epilogue}
-use Rattle.x86.specs.Encode.{rex, modrm, memory, bare, short}
-use mathlib.Core.Path.{refl, sym, _∙_}
+use mathlib.Core.Path.{_∙_, sym, ap}
+use mathlib.Core.List.{_++_, append-assoc}
 use native.Mathlib.Omega.{arith}
-use Rattle.emit.specs.Wrote.{same, then, last, nothing}
+use Rattle.x86.specs.Code.{blanks, blanks-append, length-blanks, size-append}
+use Rattle.x86.specs.Encode.{rex}
+use Rattle.jit.specs.Frame.{saves, keepPacket, argument, enter, prologue, prologue-parts, no-jumps-before}
+use Rattle.emit.specs.Wrote.{same, then}
+use Rattle.slots.specs.Emits.{plainly, emits-then}
 use borrow.Author.Needs.{needs}
 use Rattle.walk.proofs.frame.emit_prologue.Statement.{statement}
 use Rattle.walk.proofs.frame.emit_prologue.Tie as tie
 
 emit-saves-requires : tie.Need-emit-saves-requires
-emit-saves-requires c κs = omega (arith, c .before .before .before .before .pre .page, c .before .before .before .before .pre .small, prologue-parts (c .before .before .before .before .args .flags), saves-size)
-
-emit-alu-requires : tie.Need-emit-alu-requires
-emit-alu-requires c κs = (omega (arith, c .before .before .before .before .before .before .before .before .pre .page, c .before .before .before .before .before .before .before .before .pre .small, prologue-parts (c .before .before .before .before .before .before .before .before .args .flags), saves-size, c .before .before .before .emit-saves .ensures .next, length-blanks saves), search needs)
+unfolding rex
+emit-saves-requires c κs =
+    let entry = c .before .before .before .before in
+    omega (arith, entry .pre .page, prologue-parts (entry .args .flags), size-append saves keepPacket)
 
 emit-argument-requires : tie.Need-emit-argument-requires
 unfolding rex
-emit-argument-requires c κs = omega (arith, c .before .before .before .before .before .before .before .before .before .before .before .before .pre .page, c .before .before .before .before .before .before .before .before .before .before .before .before .pre .small, prologue-parts (c .before .before .before .before .before .before .before .before .before .before .before .before .args .flags), saves-size, c .before .before .before .before .before .before .before .emit-saves .ensures .next, length-blanks saves, c .before .before .before .emit-alu .ensures .next)
+emit-argument-requires c κs =
+    let entry = c .before .before .before .before .before .before .before .before in
+    let saved = c .before .before .before .emit-saves .ensures in
+    omega (arith, entry .pre .page, prologue-parts (entry .args .flags), size-append saves keepPacket, saved .next, length-blanks (saves ++ keepPacket))
 
 emit-enter-requires : tie.Need-emit-enter-requires
 unfolding rex
-emit-enter-requires c κs = record { page = omega (arith, c .before .before .before .before .before .before .before .before .before .before .before .before .before .before .before .before .before .before .pre .page, c .before .before .before .before .before .before .before .before .before .before .before .before .before .before .before .before .before .before .pre .small, prologue-parts (c .before .before .before .before .before .before .before .before .before .before .before .before .before .before .before .before .before .before .args .flags), saves-size, c .before .before .before .before .before .before .before .before .before .before .before .before .before .emit-saves .ensures .next, length-blanks saves, c .before .before .before .before .before .before .before .before .before .emit-alu .ensures .next, c .before .before .before .before .before .emit-argument .ensures .next, length-blanks (argument (c .before .before .before .before .before .before .before .before .before .before .before .before .before .before .before .before .before .before .args .flags))); field = c .before .before .before .before .before .before .before .before .before .before .before .before .before .before .before .before .before .before .pre .field; target = c .before .before .before .before .before .before .before .before .before .before .before .before .before .before .before .before .before .before .pre .target; small = omega (arith, c .before .before .before .before .before .before .before .before .before .before .before .before .before .before .before .before .before .before .pre .small) }
+emit-enter-requires c κs =
+    let entry = c .before .before .before .before .before .before .before .before .before .before .before .before .before .before in
+    let saved = c .before .before .before .before .before .before .before .before .before .emit-saves .ensures in
+    let argued = c .before .before .before .before .before .emit-argument .ensures in
+    record {
+      page = omega (arith, entry .pre .page, prologue-parts (entry .args .flags), size-append saves keepPacket, saved .next, length-blanks (saves ++ keepPacket), argued .next, length-blanks (argument (entry .args .flags)));
+      field = entry .pre .field;
+      target = entry .pre .target;
+      small = omega (arith, entry .pre .small);
+    }
 
 same-length : tie.Need-same-length
 same-length c = search needs
@@ -38,14 +47,17 @@ same-length-3 c = search needs
 
 returns : tie.Need-returns
 unfolding prologue
-returns c = rw (← append-assoc saves (op (alu MOV W64 2 10) ∷ argument (c .before .before .before .before .before .before .before .before .before .before .before .before .before .before .before .before .before .before .before .before .before .before .before .before .before .args .flags)) enter) (emits-then (saves ++ (op (alu MOV W64 2 10) ∷ argument (c .before .before .before .before .before .before .before .before .before .before .before .before .before .before .before .before .before .before .before .before .before .before .before .before .before .args .flags))) enter (plainly (saves ++ (op (alu MOV W64 2 10) ∷ argument (c .before .before .before .before .before .before .before .before .before .before .before .before .before .before .before .before .before .before .before .before .before .before .before .before .before .args .flags))) (no-jumps-before (c .before .before .before .before .before .before .before .before .before .before .before .before .before .before .before .before .before .before .before .before .before .before .before .before .before .args .flags)) (rw (blanks-append saves (op (alu MOV W64 2 10) ∷ argument (c .before .before .before .before .before .before .before .before .before .before .before .before .before .before .before .before .before .before .before .before .before .before .before .before .before .args .flags))) (then (c .before .before .before .before .before .before .before .before .before .before .before .before .before .before .before .before .before .before .before .before .emit-saves .ensures) (then (c .before .before .before .before .before .before .before .before .before .before .before .before .before .before .before .before .emit-alu .ensures) (c .before .before .before .before .before .before .before .before .before .before .before .before .emit-argument .ensures))))) (c .before .before .before .before .before .before .emit-enter .ensures))
+returns c =
+    let flags = c .before .before .before .before .before .before .before .before .before .before .before .before .before .before .before .before .before .before .before .before .before .args .flags in
+    let before = saves ++ (keepPacket ++ argument flags) in
+    let wrote = same (then (c .before .before .before .before .before .before .before .before .before .before .before .before .before .before .before .before .emit-saves .ensures) (c .before .before .before .before .before .before .before .before .before .before .before .before .emit-argument .ensures)) (sym (blanks-append (saves ++ keepPacket) (argument flags)) ∙ ap blanks (append-assoc saves keepPacket (argument flags))) in
+    rw (← append-assoc saves (keepPacket ++ argument flags) enter) (emits-then before enter (plainly before (no-jumps-before flags) wrote) (c .before .before .before .before .before .before .emit-enter .ensures))
 
 pub emit-prologue-spec : {M : Type 1} → statement M
 emit-prologue-spec =
     tie.close
     (tie.spec
     emit-saves-requires
-    emit-alu-requires
     emit-argument-requires
     emit-enter-requires
     same-length
