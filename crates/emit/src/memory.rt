@@ -17,14 +17,14 @@ pub struct Operand {
 }
 
 // A displacement that is left out.
-fn bare(base: u8, disp: u32) -> bool
+pub fn bare(base: u8, disp: u32) -> bool
     ensures { λ x. ⌜ x ≡ bare base disp ⌝ }
 {
     disp == 0 && base % 8 != 5
 }
 
 // A displacement of -128 to 127.
-fn short(disp: u32) -> bool
+pub fn short(disp: u32) -> bool
     ensures { λ x. ⌜ x ≡ short disp ⌝ }
 {
     std::num::wrapping_add_u32(disp, 128) < 256

@@ -1,4 +1,4 @@
--- What measuring finds: a slot's length and jump, and of the whole program the end, the number of jumps and the first bad one.
+-- What measuring the whole program finds: its end, the number of jumps and the first bad one.
 -- Assumes nothing.
 use mathlib.Core.Path.{_≡_, _∙_, refl, ap, sym}
 use mathlib.Core.Bool.{Bool, true, false}
@@ -16,35 +16,10 @@ use Rattle.x86.specs.Code.{size, blanks, length-blanks, targetsOf}
 use Rattle.jit.specs.MulDivMod.{Code}
 use Rattle.jit.specs.Translation.{Block, stop, go, stepAt, slotsWide, Walk, refused, done, rest, flat, orElse, badIn, firstBad}
 use Rattle.ebpf.specs.Kinds.{numbers}
-use Rattle.slots.specs.Emits.{Emits, Put}
+use Rattle.lengths.specs.Measures.{targetsIn, Measures}
 use Rattle.walk.specs.Sofar.{Sofar, begins, stops, too-long, sound, goes-on, ends, jumps-on, bad-on, wide-some}
 use Rattle.walk.specs.declared.measure.Measured.{Measured}
 use Rattle.walk.specs.declared.measure.Measured.the-variants.{Refused, Done}
-
--- a slot's listed targets, by how many there are
-abbrev pub targetsIn : (jumps target : ℕ) → List ℕ
-targetsIn jumps target = pick (eqb jumps 0) [] (target ∷ [])
-
-pub record Measures (length jumps target : ℕ) (is : Code) : Type 0 where
-  pub size-is : length ≡ size is
-  pub jumps-are : jumps ≡ lib.ListN.length (targetsOf is)
-  pub targets-are : targetsIn jumps target ≡ targetsOf is
-
--- read off the scratch
-one-entry : (t t′ ts : List ℕ) (j : ℕ) → length t ≡ 1 → length ts ≤ 1 → Put t t′ 0 j ts → targetsIn j (getD t′ 0 0) ≡ ts
-one-entry [] t′ ts j h g p = absurd (omega (arith, h))
-one-entry (a ∷ t) t′ [] j h g p = let z : j ≡ 0 = omega (arith, p .next) in rw z
-one-entry (a ∷ t) t′ (b ∷ []) j h g p = let z : j ≡ 1 = omega (arith, p .next) in rw (z, p .is)
-one-entry (a ∷ t) t′ (b ∷ c ∷ ts) j h g p = absurd (omega (arith, g))
-
-pub off-scratch : {c c′ f f′ t t′ : List ℕ} {at j : ℕ} (is : Code) → length t ≡ 1 → length (targetsOf is) ≤ 1
-    → Emits c c′ f f′ t t′ 0 0 at j is → Measures at j (getD t′ 0 0) is
-off-scratch {t = t} {t′ = t′} {j = j} is h g e =
-    record {
-      size-is = omega (arith, e .wrote .next, length-blanks is);
-      jumps-are = omega (arith, e .targets .next);
-      targets-are = one-entry t t′ (targetsOf is) j h g (e .targets);
-    }
 
 -- what measuring the whole answers
 abbrev pub measuredIs : (n start : ℕ) → Walk → Measured
@@ -61,7 +36,7 @@ pub record Answers (n page start : ℕ) (w : Walk) (r : Measured) : Type 0 where
   pub within : Within n page r
 
 -- at the head of the measuring loop
-pub record Measuring (program ids addresses kinds code fields targets : List ℕ) (page start n slot at jumps : ℕ) (bad : Bad) : Type 0 where
+pub record Measuring (program ids addresses kinds : List ℕ) (page start n slot at jumps : ℕ) (bad : Bad) : Type 0 where
   pub bs : List Block
   pub sofar : Sofar program ids addresses page start (rest (suc (length program / 8)) program ids addresses page 0 start) bs slot at
   pub jumps-are : jumps ≡ 1 + length (targetsOf (flat bs))
@@ -69,13 +44,9 @@ pub record Measuring (program ids addresses kinds code fields targets : List ℕ
   pub bad-is : bad ≡ firstBad n 0 bs
   pub n-is : n ≡ length program / 8
   pub table : kinds ≡ numbers
-  pub scratch : length code ≡ 64
-  pub field : length fields ≡ 1
-  pub target : length targets ≡ 1
 
-pub measuring-begins : (program ids addresses kinds code fields targets : List ℕ) (page start n : ℕ) → start ≤ page → n ≡ length program / 8 → kinds ≡ numbers
-    → length code ≡ 64 → length fields ≡ 1 → length targets ≡ 1 → Measuring program ids addresses kinds code fields targets page start n 0 start 1 Nowhere
-measuring-begins program ids addresses kinds code fields targets page start n h e t a b c =
+pub measuring-begins : (program ids addresses kinds : List ℕ) (page start n : ℕ) → start ≤ page → n ≡ length program / 8 → kinds ≡ numbers → Measuring program ids addresses kinds page start n 0 start 1 Nowhere
+measuring-begins program ids addresses kinds page start n h e t =
     record {
       bs = [];
       sofar = begins program ids addresses page start h;
@@ -84,13 +55,10 @@ measuring-begins program ids addresses kinds code fields targets page start n h 
       bad-is = refl;
       n-is = e;
       table = t;
-      scratch = a;
-      field = b;
-      target = c;
     }
 
-module _ {program ids addresses kinds code fields targets : List ℕ} {page start n slot at jumps : ℕ} {bad : Bad}
-    (m : Measuring program ids addresses kinds code fields targets page start n slot at jumps bad) where
+module _ {program ids addresses kinds : List ℕ} {page start n slot at jumps : ℕ} {bad : Bad}
+    (m : Measuring program ids addresses kinds page start n slot at jumps bad) where
   pub measuring-stops : (r : Refusal) → 8 * slot < length program → stop r ≡ stepAt program ids addresses slot
       → Answers (length program / 8) page start (rest (suc (length program / 8)) program ids addresses page 0 start) (Refused r)
   measuring-stops r h e = record { answer = rw (stops (m .sofar) r h e); within = tt }
@@ -100,11 +68,10 @@ module _ {program ids addresses kinds code fields targets : List ℕ} {page star
       → Answers (length program / 8) page start (rest (suc (length program / 8)) program ids addresses page 0 start) (Refused (Refusal.NoRoom (record { number = slot })))
   measuring-full b h e q g = record { answer = rw (too-long (m .sofar) b h e (rw (← q .size-is) g)); within = tt }
 
-  pub measuring-on : (b : Block) {size′ j t s k : ℕ} {code′ fields′ targets′ : List ℕ} {x : Bad} → 8 * slot < length program → go b ≡ stepAt program ids addresses slot
+  pub measuring-on : (b : Block) {size′ j t s k : ℕ} {x : Bad} → 8 * slot < length program → go b ≡ stepAt program ids addresses slot
       → Measures size′ j t (b .code) → at + size′ ≤ page → s ≡ slot + slotsWide (b .wide) → k ≡ at + size′ → x ≡ orElse bad (badIn n slot (targetsIn j t))
-      → length code′ ≡ length code → length fields′ ≡ length fields → length targets′ ≡ length targets
-      → Measuring program ids addresses kinds code′ fields′ targets′ page start n s k (jumps + j) x
-  measuring-on b {size′} {j} {t} h e q g a c y u v w =
+      → Measuring program ids addresses kinds page start n s k (jumps + j) x
+  measuring-on b {size′} {j} {t} h e q g a c y =
       let one = sound (m .sofar) b e .jumps in
       rw (a, c, q .size-is)
       (record {
@@ -115,9 +82,6 @@ module _ {program ids addresses kinds code fields targets : List ℕ} {page star
         bad-is = y ∙ rw (q .targets-are) (bad-on (m .sofar) b n (m .bad-is));
         n-is = m .n-is;
         table = m .table;
-        scratch = u ∙ m .scratch;
-        field = v ∙ m .field;
-        target = w ∙ m .target;
       })
 
   pub measuring-ends : length program ≤ 8 * slot

@@ -1,5 +1,4 @@
-// The measuring pass: every slot is judged and its code's length found before a byte is written, so that a refusal changes nothing. A
-// slot is measured by writing it to scratch.
+// The measuring pass: every slot is judged and its code's length found before a byte is written, so that a refusal changes nothing.
 ghost use mathlib.Core.Path.{_≡_};
 ghost use mathlib.Core.List.{[], _∷_};
 ghost use Prim.Native.Nat.{suc, _+_, _/_, _≤_, _<_, _^_};
@@ -8,17 +7,17 @@ ghost use lib.ListN.{length};
 ghost use Rattle.base.specs.Pick.{pick};
 ghost use Rattle.jit.specs.Slots.{slotCode};
 ghost use Rattle.jit.specs.Translation.{goodTarget, orElse, badIn, rest, wideKind, slotsWide};
-ghost use Rattle.walk.specs.Measures.{Measures, Answers, targetsIn};
+ghost use Rattle.lengths.specs.Measures.{Measures, targetsIn};
+ghost use Rattle.walk.specs.Measures.{Answers};
 use crate::step;
 use crate::step::Stepped;
-use base::Position;
 use base::Slot;
 use ebpf::insn::Insn;
 use ebpf::kind;
 use ebpf::kind::Kind;
 use jit::Bad;
 use jit::Refusal;
-use slots::emission::Emission;
+use lengths::jump;
 
 // How long a slot's code is, and its jump, if there is one.
 pub struct Length {
@@ -32,30 +31,15 @@ pub enum Measured {
     Done { end: usize, jumps: usize, bad: Bad },
 }
 
-// The scratch is 64 bytes and one entry of each table.
-fn slot_length(
-    code: &mut [u8],
-    fields: &mut [u32],
-    targets: &mut [u32],
-    kind: Kind,
-    slot: Slot,
-    i: Insn,
-    value: u64,
-) -> Length
-    requires { ⌜ (length (now code) ≡ 64) × ((length (now fields) ≡ 1) × (length (now targets) ≡ 1)) ⌝ }
+fn slot_length(kind: Kind, slot: Slot, i: Insn, value: u64) -> Length
     requires { ⌜ (i .dst < 11) × ((i .src < 11) × (slot .number < 2 ^ 16)) ⌝ }
     ensures { λ r. ⌜ Measures (r .size) (r .jumps) (r .target) (slotCode kind (slot .number) i value) ⌝ }
 {
-    let start = Emission {
-        at: Position { offset: 0 },
-        jumps: 0,
-    };
-    let e = slots::slot::emit_slot(code, fields, targets, start, kind, slot, i, value);
-    let at = e.at;
+    let listed = jump::jump_of(kind, slot, i);
     Length {
-        size: at.offset,
-        jumps: e.jumps,
-        target: targets[0],
+        size: lengths::slot::slot_length(kind, i, value),
+        jumps: listed.jumps,
+        target: listed.target,
     }
 }
 
@@ -113,9 +97,6 @@ pub fn measure(prog: &[u8], ids: &[u32], addresses: &[u64], page: usize, start: 
     ensures { λ r. ⌜ Answers (length (now (prog .entry)) / 8) page start (rest (suc (length (now (prog .entry)) / 8)) (now (prog .entry)) (now (ids .entry)) (now (addresses .entry)) page 0 start) r ⌝ }
 {
     let kinds = kind::KINDS;
-    let mut code = [0u8; 64];
-    let mut fields = [0u32; 1];
-    let mut targets = [0u32; 1];
     let n = prog.len() / 8;
     let mut slot: usize = 0;
     let mut at = start;
@@ -128,7 +109,7 @@ pub fn measure(prog: &[u8], ids: &[u32], addresses: &[u64], page: usize, start: 
                 return Measured::Refused(refusal);
             }
             Stepped::Go(known, i, value) => {
-                let m = slot_length(&mut code, &mut fields, &mut targets, known, here, i, value);
+                let m = slot_length(known, here, i, value);
                 let next = at + m.size;
                 if page < next {
                     return Measured::Refused(Refusal::NoRoom(here));

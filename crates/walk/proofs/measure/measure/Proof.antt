@@ -14,16 +14,16 @@ use Rattle.walk.proofs.measure.measure.Statement.{statement}
 use Rattle.walk.proofs.measure.measure.Tie as tie
 
 abbrev Inv-loop : tie.InvT-loop
-Inv-loop prog ids addresses page start kinds code₀ fields₀ targets₀ n slot₀ at₀ jumps₀ bad₀ code fields targets slot at jumps bad =
-    Measuring prog ids addresses kinds code fields targets page start n slot at jumps bad
+Inv-loop prog ids addresses page start kinds n slot₀ at₀ jumps₀ bad₀ slot at jumps bad =
+    Measuring prog ids addresses kinds page start n slot at jumps bad
 
 abbrev μ-loop : tie.MeasureT-loop
-μ-loop prog ids addresses page start kinds code₀ fields₀ targets₀ n slot₀ at₀ jumps₀ bad₀ code fields targets slot at jumps bad =
+μ-loop prog ids addresses page start kinds n slot₀ at₀ jumps₀ bad₀ slot at jumps bad =
     length prog - slot
 
 loop-holds : tie.Need-loop-holds Inv-loop μ-loop
 unfolding numbers kindOf
-loop-holds c = measuring-begins _ _ _ _ _ _ _ _ _ _ (search needs) refl refl refl refl refl
+loop-holds c = measuring-begins _ _ _ _ _ _ _ (search needs) refl refl
 
 mul-loop : tie.Need-mul-loop Inv-loop μ-loop
 mul-loop c = omega (arith, c .before .before .before .before .pre)
@@ -40,41 +40,32 @@ returns c = measuring-stops (c .before .before .before .before .before .before .
 enum-known-known : tie.Need-enum-known-known Inv-loop μ-loop
 enum-known-known c = search needs
 
-slice-aggregate-slot-length : tie.Need-slice-aggregate-slot-length Inv-loop μ-loop
-slice-aggregate-slot-length c = sym (c .before .before .before .before .before .before .before .loop .inv .scratch)
-
-slice-aggregate-slot-length-2 : tie.Need-slice-aggregate-slot-length-2 Inv-loop μ-loop
-slice-aggregate-slot-length-2 c = sym (c .before .before .before .before .before .before .before .before .loop .inv .field)
-
-slice-aggregate-slot-length-3 : tie.Need-slice-aggregate-slot-length-3 Inv-loop μ-loop
-slice-aggregate-slot-length-3 c = sym (c .before .before .before .before .before .before .before .before .before .loop .inv .target)
-
 slot-length-requires : tie.Need-slot-length-requires Inv-loop μ-loop
-slot-length-requires c κs = ((c .before .before .before .before .before .before .before .before .before .loop .inv .scratch, (c .before .before .before .before .before .before .before .before .before .loop .inv .field, c .before .before .before .before .before .before .before .before .before .loop .inv .target)), let regs = rw (c .before .before .before .before .known .given .1) at (c .before .before .before .before .before .before .step .ensures .registers) in (regs .0, (regs .1, omega (arith, c .before .before .before .before .before .before .before .before .before .before .before .before .before .pre, c .before .before .before .before .before .before .before .before .before .loop .inv .sofar .inside))))
+slot-length-requires c κs = let regs = rw (c .before .known .given .1) at (c .before .before .before .step .ensures .registers) in (regs .0, (regs .1, omega (arith, c .before .before .before .before .before .before .before .before .before .before .pre, c .before .before .before .before .before .before .loop .inv .sofar .inside)))
 
 add-next : tie.Need-add-next Inv-loop μ-loop
-add-next c = omega (arith, c .before .before .before .before .before .before .before .before .before .before .before .before .before .before .before .before .before .before .pre, c .before .before .before .before .before .before .before .before .before .before .before .before .before .before .loop .inv .sofar .room, c .before .before .before .before .slot-length .ensures .size-is, slot-most (c .before .before .before .before .before .before .before .before .before .known .given .0 .0) (c .before .before .before .before .before .before .before .before .before .before .before .before .before .before .loop .slot) (c .before .before .before .before .before .before .before .before .before .known .given .0 .1 .0) (c .before .before .before .before .before .before .before .before .before .known .given .0 .1 .1 .0))
+add-next c = omega (arith, c .before .before .before .before .before .before .before .before .before .before .before .before .pre, c .before .before .before .before .before .before .before .before .loop .inv .sofar .room, c .before .slot-length .ensures .size-is, slot-most (c .before .before .before .known .given .0 .0) (c .before .before .before .before .before .before .before .before .loop .slot) (c .before .before .before .known .given .0 .1 .0) (c .before .before .before .known .given .0 .1 .1 .0))
 
 returns-2 : tie.Need-returns-2 Inv-loop μ-loop
-returns-2 c = measuring-full (c .before .before .before .before .before .before .before .before .before .before .before .before .before .before .before .loop .inv) (blockOf (c .before .before .before .before .before .before .before .before .before .before .known .given .0 .0) (c .before .before .before .before .before .before .before .before .before .before .before .before .before .before .before .loop .slot) (c .before .before .before .before .before .before .before .before .before .before .known .given .0 .1 .0) (c .before .before .before .before .before .before .before .before .before .before .known .given .0 .1 .1 .0)) (c .before .before .before .before .before .before .before .before .before .before .before .before .before .before .loop-test .taken) (rw (c .before .before .before .before .before .before .before .before .before .before .known .given .1) at (c .before .before .before .before .before .before .before .before .before .before .before .before .step .ensures .step)) (c .before .before .before .before .before .slot-length .ensures) (c .if1 .taken)
+returns-2 c = measuring-full (c .before .before .before .before .before .before .before .before .before .loop .inv) (blockOf (c .before .before .before .before .known .given .0 .0) (c .before .before .before .before .before .before .before .before .before .loop .slot) (c .before .before .before .before .known .given .0 .1 .0) (c .before .before .before .before .known .given .0 .1 .1 .0)) (c .before .before .before .before .before .before .before .before .loop-test .taken) (rw (c .before .before .before .before .known .given .1) at (c .before .before .before .before .before .before .step .ensures .step)) (c .before .before .slot-length .ensures) (c .if1 .taken)
 
 note-bad-requires : tie.Need-note-bad-requires Inv-loop μ-loop
 note-bad-requires c κs = search needs
 
 add-jumps : tie.Need-add-jumps Inv-loop μ-loop
-add-jumps c = omega (arith, c .before .before .before .before .before .before .before .before .before .before .before .before .before .before .before .before .before .before .before .before .before .pre, c .before .before .before .before .before .before .before .before .before .before .before .before .before .before .before .before .before .loop .inv .few, c .before .before .before .before .before .before .before .before .before .before .before .before .before .before .before .before .before .loop .inv .sofar .inside, c .before .before .before .before .before .before .before .slot-length .ensures .jumps-are, slot-jumps (c .before .before .before .before .before .before .before .before .before .before .before .before .known .given .0 .0) (c .before .before .before .before .before .before .before .before .before .before .before .before .before .before .before .before .before .loop .slot) (c .before .before .before .before .before .before .before .before .before .before .before .before .known .given .0 .1 .0) (c .before .before .before .before .before .before .before .before .before .before .before .before .known .given .0 .1 .1 .0))
+add-jumps c = omega (arith, c .before .before .before .before .before .before .before .before .before .before .before .before .before .before .before .pre, c .before .before .before .before .before .before .before .before .before .before .before .loop .inv .few, c .before .before .before .before .before .before .before .before .before .before .before .loop .inv .sofar .inside, c .before .before .before .before .slot-length .ensures .jumps-are, slot-jumps (c .before .before .before .before .before .before .known .given .0 .0) (c .before .before .before .before .before .before .before .before .before .before .before .loop .slot) (c .before .before .before .before .before .before .known .given .0 .1 .0) (c .before .before .before .before .before .before .known .given .0 .1 .1 .0))
 
 slots-of-requires : tie.Need-slots-of-requires Inv-loop μ-loop
 slots-of-requires c κs = search needs
 
 add-slot : tie.Need-add-slot Inv-loop μ-loop
-add-slot c = omega (arith, c .before .before .before .before .before .before .before .before .before .before .before .before .before .before .before .before .before .before .before .before .before .before .pre, c .before .before .before .before .before .before .before .before .before .before .before .before .before .before .before .before .before .before .loop .inv .sofar .inside, c .slots-of .ensures .1)
+add-slot c = omega (arith, c .before .before .before .before .before .before .before .before .before .before .before .before .before .before .before .before .pre, c .before .before .before .before .before .before .before .before .before .before .before .before .loop .inv .sofar .inside, c .slots-of .ensures .1)
 
 loop-less : tie.Need-loop-less Inv-loop μ-loop
-loop-less c = omega (arith, c .before .before .before .before .before .before .before .before .before .before .before .before .before .before .before .before .before .before .before .before .before .before .pre, c .before .before .before .before .before .before .before .before .before .before .before .before .before .before .before .before .before .loop-test .taken, c .before .before .before .before .before .before .before .before .before .before .before .before .before .before .before .before .before .before .loop .inv .sofar .inside, c .slots-of .ensures .0, wide-some (wideKind (c .before .before .before .before .before .before .before .before .before .before .before .before .before .known .given .0 .0)))
+loop-less c = omega (arith, c .before .before .before .before .before .before .before .before .before .before .before .before .before .before .before .before .pre, c .before .before .before .before .before .before .before .before .before .before .before .loop-test .taken, c .before .before .before .before .before .before .before .before .before .before .before .before .loop .inv .sofar .inside, c .slots-of .ensures .0, wide-some (wideKind (c .before .before .before .before .before .before .before .known .given .0 .0)))
 
 loop-again : tie.Need-loop-again Inv-loop μ-loop
-loop-again c = measuring-on (c .before .before .before .before .before .before .before .before .before .before .before .before .before .before .before .before .before .before .loop .inv) (blockOf (c .before .before .before .before .before .before .before .before .before .before .before .before .before .known .given .0 .0) (c .before .before .before .before .before .before .before .before .before .before .before .before .before .before .before .before .before .before .loop .slot) (c .before .before .before .before .before .before .before .before .before .before .before .before .before .known .given .0 .1 .0) (c .before .before .before .before .before .before .before .before .before .before .before .before .before .known .given .0 .1 .1 .0)) (c .before .before .before .before .before .before .before .before .before .before .before .before .before .before .before .before .before .loop-test .taken) (rw (c .before .before .before .before .before .before .before .before .before .before .before .before .before .known .given .1) at (c .before .before .before .before .before .before .before .before .before .before .before .before .before .before .before .step .ensures .step)) (c .before .before .before .before .before .before .before .before .slot-length .ensures) (search needs) (rw (← c .slots-of .ensures .0)) refl (c .before .before .note-bad .ensures) (search needs) (search needs) (search needs)
+loop-again c = measuring-on (c .before .before .before .before .before .before .before .before .before .before .before .before .loop .inv) (blockOf (c .before .before .before .before .before .before .before .known .given .0 .0) (c .before .before .before .before .before .before .before .before .before .before .before .before .loop .slot) (c .before .before .before .before .before .before .before .known .given .0 .1 .0) (c .before .before .before .before .before .before .before .known .given .0 .1 .1 .0)) (c .before .before .before .before .before .before .before .before .before .before .before .loop-test .taken) (rw (c .before .before .before .before .before .before .before .known .given .1) at (c .before .before .before .before .before .before .before .before .before .step .ensures .step)) (c .before .before .before .before .before .slot-length .ensures) (search needs) (rw (← c .slots-of .ensures .0)) refl (c .before .before .note-bad .ensures)
 
 returns-3 : tie.Need-returns-3 Inv-loop μ-loop
 returns-3 c = measuring-ends (c .before .loop .inv) (search needs)
@@ -91,9 +82,6 @@ measure-spec =
     enum-known-refusal
     returns
     enum-known-known
-    slice-aggregate-slot-length
-    slice-aggregate-slot-length-2
-    slice-aggregate-slot-length-3
     slot-length-requires
     add-next
     returns-2

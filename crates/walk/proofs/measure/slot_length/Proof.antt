@@ -1,32 +1,16 @@
-use Rattle.jit.specs.Slots.{slotCode}
-use Rattle.walk.specs.Measures.{off-scratch}
-use Rattle.jit.specs.SlotSize.{slot-most, slot-jumps}
-use mathlib.Core.Path.{refl, sym, _∙_}
-use native.Mathlib.Omega.{arith}
-use borrow.Author.Tests.{eq-eqb, ne-eqb, le-leb, lt-leb}
+use Rattle.lengths.specs.Measures.{measured}
 use borrow.Author.Needs.{needs}
 use Rattle.walk.proofs.measure.slot_length.Statement.{statement}
 use Rattle.walk.proofs.measure.slot_length.Tie as tie
 
-emit-slot-requires : tie.Need-emit-slot-requires
-emit-slot-requires c κs = (record { page = omega (arith, c .before .before .before .before .before .before .pre .0 .0, slot-most (c .before .before .before .before .before .before .args .kind) (c .before .before .before .before .before .before .args .slot .number) (c .before .before .before .before .before .before .args .i) (c .before .before .before .before .before .before .args .value)); field = omega (arith, c .before .before .before .before .before .before .pre .0 .1 .0); target = omega (arith, c .before .before .before .before .before .before .pre .0 .1 .1); small = omega (arith, c .before .before .before .before .before .before .pre .0 .0) }, c .before .before .before .before .before .before .pre .1)
+jump-of-requires : tie.Need-jump-of-requires
+jump-of-requires c κs = search needs
 
-slice-read-t19 : tie.Need-slice-read-t19
-slice-read-t19 c = search needs
-
-same-length : tie.Need-same-length
-same-length c = search needs
-
-same-length-2 : tie.Need-same-length-2
-same-length-2 c = search needs
-
-same-length-3 : tie.Need-same-length-3
-same-length-3 c = search needs
+slot-length-requires : tie.Need-slot-length-requires
+slot-length-requires c κs = search needs
 
 returns : tie.Need-returns
-returns c = off-scratch (slotCode (c .before .before .before .before .before .before .before .before .before .before .before .before .before .before .before .args .kind) (c .before .before .before .before .before .before .before .before .before .before .before .before .before .before .before .args .slot .number) (c .before .before .before .before .before .before .before .before .before .before .before .before .before .before .before .args .i) (c .before .before .before .before .before .before .before .before .before .before .before .before .before .before .before .args .value)) (c .before .before .before .before .before .before .before .before .before .before .before .before .before .before .before .pre .0 .1 .1) (slot-jumps (c .before .before .before .before .before .before .before .before .before .before .before .before .before .before .before .args .kind) (c .before .before .before .before .before .before .before .before .before .before .before .before .before .before .before .args .slot .number) (c .before .before .before .before .before .before .before .before .before .before .before .before .before .before .before .args .i) (c .before .before .before .before .before .before .before .before .before .before .before .before .before .before .before .args .value)) (c .before .before .before .before .before .before .before .before .emit-slot .ensures)
+returns c = measured _ _ _ _ (c .slot-length .ensures .0 (c .before .before .args .slot .number)) (c .before .jump-of .ensures (c .before .before .args .value))
 
 pub slot-length-spec : {M : Type 1} → statement M
-slot-length-spec =
-    tie.close
-    (tie.spec emit-slot-requires slice-read-t19 same-length same-length-2 same-length-3 returns)
+slot-length-spec = tie.close (tie.spec jump-of-requires slot-length-requires returns)

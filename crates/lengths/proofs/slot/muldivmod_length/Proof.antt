@@ -1,0 +1,66 @@
+use Rattle.lengths.specs.Lengths.{imm-zero, imm-some, reg-size}
+use native.Mathlib.Omega.{arith}
+use borrow.Author.Needs.{needs}
+use Rattle.lengths.proofs.slot.muldivmod_length.Statement.{statement}
+use Rattle.lengths.proofs.slot.muldivmod_length.Tie as tie
+
+map-register-requires : tie.Need-map-register-requires
+map-register-requires c κs = search needs
+
+enum-told : tie.Need-enum-told
+enum-told c = search needs
+
+by-zero-length-requires : tie.Need-by-zero-length-requires
+by-zero-length-requires c κs = search needs
+
+returns : tie.Need-returns
+returns c = rw (c .before .before .before .enum-told .given .1) (λ slot. imm-zero (c .before .before .before .before .before .before .args .op) (c .before .before .before .before .before .before .args .width) slot (c .before .before .before .before .before .before .args .i) (c .before .if1 .taken) (rw (c .before .before .before .before .before .map-register .ensures .0) at (c .by-zero-length .ensures .0)), omega (arith, c .by-zero-length .ensures .1))
+
+computed-length-requires : tie.Need-computed-length-requires
+computed-length-requires c κs = search needs
+
+add-result : tie.Need-add-result
+add-result c = search needs
+
+enum-told-2 : tie.Need-enum-told-2
+enum-told-2 c = search needs
+
+map-register-requires-2 : tie.Need-map-register-requires-2
+map-register-requires-2 c κs = search needs
+
+guard-length-requires : tie.Need-guard-length-requires
+guard-length-requires c κs = search needs
+
+computed-length-requires-2 : tie.Need-computed-length-requires-2
+computed-length-requires-2 c κs = search needs
+
+add-result-2 : tie.Need-add-result-2
+add-result-2 c = search needs
+
+add-result-3 : tie.Need-add-result-3
+add-result-3 c = search needs
+
+returns-2 : tie.Need-returns-2
+returns-2 c = rw (c .before .before .before .enum-told .given .1) (λ slot. imm-some (c .before .before .before .before .before .before .args .op) (c .before .before .before .before .before .before .args .width) slot (c .before .before .before .before .before .before .args .i) (c .computed-length .result) (c .before .if1 .left) (rw (c .before .before .before .before .before .map-register .ensures .0) at (c .computed-length .ensures .0)), omega (arith, c .computed-length .ensures .1))
+
+returns-3 : tie.Need-returns-3
+returns-3 c = rw (c .before .before .before .enum-told2 .given .1) (λ slot. reg-size (c .before .before .before .before .before .before .args .op) (c .before .before .before .before .before .before .args .width) slot (c .before .before .before .before .before .before .args .i) (c .before .guard-length .result) (c .computed-length2 .result) (rw (c .before .before .before .before .before .map-register .ensures .0, c .before .before .map-register2 .ensures .0) at (c .before .guard-length .ensures .0 slot)) (rw (c .before .before .before .before .before .map-register .ensures .0) at (c .computed-length2 .ensures .0)), omega (arith, c .before .guard-length .ensures .1, c .computed-length2 .ensures .1))
+
+pub muldivmod-length-spec : {M : Type 1} → statement M
+muldivmod-length-spec =
+    tie.close
+    (tie.spec
+    map-register-requires
+    enum-told
+    by-zero-length-requires
+    returns
+    computed-length-requires
+    add-result
+    enum-told-2
+    map-register-requires-2
+    guard-length-requires
+    computed-length-requires-2
+    add-result-2
+    add-result-3
+    returns-2
+    returns-3)

@@ -1,0 +1,99 @@
+-- What measuring a slot finds: its length, how many jumps it lists, none or one, and where that one goes.
+-- Assumes nothing.
+use mathlib.Core.Path.{_≡_, _∙_, refl, ap, sym}
+use mathlib.Core.Bool.{Bool, true, false}
+use mathlib.Core.List.{List, [], _∷_, _++_, append-nil}
+use Prim.Native.Nat.{ℕ, zero, suc, _+_, _≤_}
+use native.Mathlib.Omega.{arith}
+use lib.Dec.{eqb}
+use lib.ListN.{length}
+use borrow.Author.Tests.{eq-eqb, ne-eqb}
+use Rattle.base.specs.Pick.{pick}
+use Rattle.base.specs.declared.Width.{Width}
+use Rattle.base.specs.declared.Width.the-variants.{W64}
+use Rattle.ebpf.specs.declared.insn.Insn.{Insn}
+use Rattle.ebpf.specs.declared.kind.Source.{Source}
+use Rattle.ebpf.specs.declared.kind.Source.the-variants.{Imm, Reg}
+use Rattle.ebpf.specs.declared.kind.AluOp.{AluOp}
+use Rattle.ebpf.specs.declared.kind.ShiftOp.{ShiftOp}
+use Rattle.ebpf.specs.declared.kind.MulOp.{MulOp}
+use Rattle.ebpf.specs.declared.kind.MulOp.the-variants.{Mul, Div, Mod}
+use Rattle.ebpf.specs.declared.kind.Condition.{Condition}
+use Rattle.x86.specs.Registers.{RCX}
+use Rattle.x86.specs.Instr.{op, alu, MOV}
+use Rattle.x86.specs.Code.{size, targetsOf, targets-append}
+use Rattle.jit.specs.MulDivMod.{Code, guard, computed}
+use Rattle.jit.specs.Slots.{regOf, targetOf, aluCode, shiftCode, movCode, mulDivModCode, jumpCode, callCode}
+use Rattle.jit.specs.SlotSize.{computed-none, imm-jumps}
+
+-- a slot's listed targets, by how many there are
+abbrev pub targetsIn : (jumps target : ℕ) → List ℕ
+targetsIn jumps target = pick (eqb jumps 0) [] (target ∷ [])
+
+pub record Lists (jumps target : ℕ) (is : Code) : Type 0 where
+  pub few : jumps ≤ 1
+  pub targets : targetsIn jumps target ≡ targetsOf is
+
+pub record Measures (length jumps target : ℕ) (is : Code) : Type 0 where
+  pub size-is : length ≡ size is
+  pub jumps-are : jumps ≡ lib.ListN.length (targetsOf is)
+  pub targets-are : targetsIn jumps target ≡ targetsOf is
+
+pub measured : (size′ jumps target : ℕ) (is : Code) → size′ ≡ size is → Lists jumps target is → Measures size′ jumps target is
+measured s j t is h l = record { size-is = h; jumps-are = counted j (l .few) ∙ ap length (l .targets); targets-are = l .targets }
+  where
+    counted : (j : ℕ) → j ≤ 1 → j ≡ length (targetsIn j t)
+    counted zero g = refl
+    counted (suc zero) g = refl
+    counted (suc (suc j)) g = absurd (omega (arith, g))
+
+-- no target
+nothing : (l : List ℕ) → length l ≤ 0 → [] ≡ l
+nothing [] h = refl
+nothing (a ∷ l) h = absurd (omega (arith, h))
+
+pub lists-none : (is : Code) → length (targetsOf is) ≤ 0 → Lists 0 0 is
+lists-none is h = record { few = omega arith; targets = nothing (targetsOf is) h }
+
+pub alu-none : (o : AluOp) (w : Width) (s : Source) (i : Insn) → length (targetsOf (aluCode o w s i)) ≤ 0
+alu-none o w Imm i = omega arith
+alu-none o w Reg i = omega arith
+
+pub shift-none : (o : ShiftOp) (w : Width) (s : Source) (i : Insn) → length (targetsOf (shiftCode o w s i)) ≤ 0
+shift-none o w Imm i = omega arith
+shift-none o w Reg i = omega arith
+
+pub mov-none : (w : Width) (s : Source) (i : Insn) → length (targetsOf (movCode w s i)) ≤ 0
+mov-none w Imm i = omega arith
+mov-none w Reg i = omega arith
+
+-- one
+pub jump-one : (c : Condition) (w : Width) (s : Source) (slot : ℕ) (i : Insn) → Lists 1 (targetOf slot (i .off)) (jumpCode c w s slot i)
+jump-one c w Imm slot i = record { few = omega arith; targets = refl }
+jump-one c w Reg slot i = record { few = omega arith; targets = refl }
+
+pub imm-lists : (o : MulOp) (w : Width) (slot : ℕ) (i : Insn) → Lists 0 0 (mulDivModCode o w Imm slot i)
+imm-lists o w slot i = lists-none (mulDivModCode o w Imm slot i) (imm-jumps o w (regOf (i .dst)) (i .imm))
+
+-- what the guard of a divisor lists, all of the slot does
+guarded : (o : MulOp) (w : Width) (slot : ℕ) (i : Insn) → targetsOf (guard o slot w (regOf (i .src)) (regOf (i .dst))) ≡ targetsOf (mulDivModCode o w Reg slot i)
+guarded o w slot i =
+    let s = regOf (i .src) in
+    let d = regOf (i .dst) in
+    let operand = op (alu MOV W64 s RCX) ∷ [] in
+    sym (targets-append (guard o slot w s d) (computed o w operand d) ∙ rw (← nothing (targetsOf (computed o w operand d)) (computed-none o w operand d (omega arith))) (append-nil (targetsOf (guard o slot w s d))))
+
+pub mul-lists : (w : Width) (slot : ℕ) (i : Insn) → Lists 0 0 (mulDivModCode Mul w Reg slot i)
+mul-lists w slot i = record { few = omega arith; targets = guarded Mul w slot i }
+
+pub div-lists : (w : Width) (slot : ℕ) (i : Insn) → Lists 1 (slot + 1) (mulDivModCode Div w Reg slot i)
+div-lists w slot i = record { few = omega arith; targets = guarded Div w slot i }
+
+pub mod-lists : (w : Width) (slot : ℕ) (i : Insn) → Lists 1 (slot + 1) (mulDivModCode Mod w Reg slot i)
+mod-lists w slot i = record { few = omega arith; targets = guarded Mod w slot i }
+
+pub helper-lists : (slot : ℕ) (i : Insn) (v : ℕ) → i .src ≡ 0 → Lists 0 0 (callCode slot i v)
+helper-lists slot i v e = rw (eq-eqb _ _ e) (record { few = omega arith; targets = refl })
+
+pub local-lists : (slot : ℕ) (i : Insn) (v : ℕ) → ¬ (i .src ≡ 0) → Lists 1 (targetOf slot (i .imm)) (callCode slot i v)
+local-lists slot i v e = rw (ne-eqb _ _ e) (record { few = omega arith; targets = refl })
