@@ -1,8 +1,14 @@
 // What can be wrong with a stream, a case or what the translator did, and the sentence that says so.
 ghost use mathlib.Core.Path.{_≡_};
+ghost use Prim.Native.Nat.{min};
 ghost use lib.Dec.{eqb};
-ghost use Rattle.cases.specs.Problems.{problemNumber};
+ghost use lib.ListN.{length};
+ghost use Rattle.words.specs.Text.{Says};
+ghost use Rattle.cases.specs.Problems.{problemNumber, whyOf, reportOf};
 use libc::STDERR_FILENO;
+use words::number::put_decimal;
+use words::text::put_byte;
+use words::text::put_text;
 
 pub enum Problem {
     Nothing,
@@ -63,42 +69,82 @@ pub fn is_end(problem: Problem) -> bool
     number_of(problem) == 1
 }
 
-fn say(text: &[u8]) {
-    io::write_all(STDERR_FILENO, text);
-}
-
-fn say_why(problem: Problem) {
+fn put_why(out: &mut [u8], at: usize, problem: Problem) -> usize
+    ensures { λ r. ⌜ Says (now (out .entry)) (now (out .exit)) at r (whyOf problem) ⌝ }
+{
     match problem {
-        Problem::Nothing => say(b": nothing is wrong with it"),
-        Problem::End => say(b" is not there: the stream has ended"),
-        Problem::Unreadable => say(b" cannot be read"),
-        Problem::Torn => say(b" is malformed: the stream ends inside it"),
-        Problem::TooLong => say(b" is malformed: it is longer than the format allows"),
-        Problem::OtherFlags => say(b" is malformed: it has a flag other than bits 0 and 1"),
-        Problem::ManyIds => say(b" is malformed: it has more than 512 helper ids"),
-        Problem::ManyAddresses => say(b" is malformed: it has more than 512 helper addresses"),
-        Problem::LongProgram => say(b" is malformed: its program is longer than 32768 bytes"),
-        Problem::Unfilled => say(b" is malformed: its parts do not fill its length"),
-        Problem::WrongLengths => say(b": the translator answers lengths beyond what it was lent"),
-        Problem::PageChanged => say(b": the translator changed the page where it may not"),
-        Problem::LocationsChanged => say(
+        Problem::Nothing => put_text(out, at, b": nothing is wrong with it"),
+        Problem::End => put_text(out, at, b" is not there: the stream has ended"),
+        Problem::Unreadable => put_text(out, at, b" cannot be read"),
+        Problem::Torn => put_text(out, at, b" is malformed: the stream ends inside it"),
+        Problem::TooLong => put_text(
+            out,
+            at,
+            b" is malformed: it is longer than the format allows",
+        ),
+        Problem::OtherFlags => put_text(
+            out,
+            at,
+            b" is malformed: it has a flag other than bits 0 and 1",
+        ),
+        Problem::ManyIds => put_text(out, at, b" is malformed: it has more than 512 helper ids"),
+        Problem::ManyAddresses => put_text(
+            out,
+            at,
+            b" is malformed: it has more than 512 helper addresses",
+        ),
+        Problem::LongProgram => put_text(
+            out,
+            at,
+            b" is malformed: its program is longer than 32768 bytes",
+        ),
+        Problem::Unfilled => put_text(out, at, b" is malformed: its parts do not fill its length"),
+        Problem::WrongLengths => put_text(
+            out,
+            at,
+            b": the translator answers lengths beyond what it was lent",
+        ),
+        Problem::PageChanged => put_text(
+            out,
+            at,
+            b": the translator changed the page where it may not",
+        ),
+        Problem::LocationsChanged => put_text(
+            out,
+            at,
             b": the translator changed the location table where it may not",
         ),
-        Problem::FieldsChanged => say(
+        Problem::FieldsChanged => put_text(
+            out,
+            at,
             b": the translator changed the jump field table where it may not",
         ),
-        Problem::NoRoom => say(b": there is no room for its answer"),
-        Problem::TargetsChanged => say(
+        Problem::TargetsChanged => put_text(
+            out,
+            at,
             b": the translator changed the jump target table where it may not",
         ),
+        Problem::NoRoom => put_text(out, at, b": there is no room for its answer"),
     }
 }
 
-// A line on standard error, as `case 7 is malformed: the stream ends inside it`. Records are counted from 0.
-pub fn report(what: &[u8], index: u64, problem: Problem) {
-    say(what);
-    say(b" ");
-    io::print_decimal(STDERR_FILENO, index);
-    say_why(problem);
-    say(b"\n");
+// As `case 7 is malformed: the stream ends inside it`, with its newline. Records are counted from 0.
+pub fn put_report(out: &mut [u8], what: &[u8], index: u64, problem: Problem) -> usize
+    ensures { λ r. ⌜ Says (now (out .entry)) (now (out .exit)) 0 r (reportOf (now (what .entry)) index problem) ⌝ }
+{
+    let named = put_text(out, 0, what);
+    let apart = put_byte(out, named, b' ');
+    let counted = put_decimal(out, apart, index);
+    let told = put_why(out, counted, problem);
+    put_byte(out, told, b'\n')
+}
+
+// That line, on standard error; the answer is how many bytes it has, 160 at most.
+pub fn report(what: &[u8], index: u64, problem: Problem) -> usize
+    ensures { λ r. ⌜ r ≡ min (length (reportOf (now (what .entry)) index problem)) 160 ⌝ }
+{
+    let mut line = [0u8; 160];
+    let end = put_report(&mut line, what, index, problem);
+    io::write_all(STDERR_FILENO, &line[..end]);
+    end
 }

@@ -1,0 +1,42 @@
+use lib.Seq.{length-take-le}
+use borrow.Author.Needs.{needs}
+use Rattle.decoded.proofs.flushed.Statement.{statement}
+use Rattle.decoded.proofs.flushed.Tie as tie
+use Rattle.decoded.proofs.flushed.Reads as reads
+use Rattle.decoded.proofs.flushed.Lts as lts
+use Rattle.io.proofs.write_all.Reads as write-all-reads
+
+-- src/main.rt:27:37
+slice-aggregate-write-all : tie.Need-slice-aggregate-write-all
+slice-aggregate-write-all c = simp (length-take-le, c .before .before .pre)
+
+-- src/main.rt:27:8
+write-all-requires : tie.Need-write-all-requires
+write-all-requires c κs = search needs
+
+-- src/main.rt:28:9
+returns : tie.Need-returns
+returns c = search needs
+
+-- src/main.rt:33:34
+slice-aggregate-write-all-2 : tie.Need-slice-aggregate-write-all-2
+slice-aggregate-write-all-2 c = search needs
+
+-- src/main.rt:33:5
+write-all-requires-2 : tie.Need-write-all-requires-2
+write-all-requires-2 c κs = search needs
+
+-- src/main.rt:23:1
+returns-2 : tie.Need-returns-2
+returns-2 c = search needs
+
+pub flushed-spec : {M : Type 1} → statement M
+flushed-spec =
+    tie.close
+    (tie.spec
+    slice-aggregate-write-all
+    write-all-requires
+    returns
+    slice-aggregate-write-all-2
+    write-all-requires-2
+    returns-2)

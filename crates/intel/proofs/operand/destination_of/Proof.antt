@@ -1,0 +1,16 @@
+use native.Mathlib.Omega.{arith}
+use Rattle.intel.specs.Intel.{destinationOf}
+use Rattle.words.specs.Text.{same, then, nothing}
+use borrow.Author.Needs.{needs}
+use Rattle.intel.proofs.operand.destination_of.Statement.{statement}
+use Rattle.intel.proofs.operand.destination_of.Tie as tie
+
+add-result : tie.Need-add-result
+add-result c = search needs
+
+returns : tie.Need-returns
+unfolding destinationOf
+returns c = omega arith
+
+pub destination-of-spec : {M : Type 1} → statement M
+destination-of-spec = tie.close (tie.spec add-result returns)

@@ -1,0 +1,94 @@
+use Rattle.x86.specs.Decode.{withModrm}
+use Rattle.base.specs.Tests.{eqb-true, eqb-false}
+use borrow.Author.Needs.{needs}
+use Rattle.reader.proofs.operand.modrm_at.Statement.{statement}
+use Rattle.reader.proofs.operand.modrm_at.Tie as tie
+use Rattle.reader.proofs.operand.modrm_at.Reads as reads
+use Rattle.reader.proofs.operand.modrm_at.Lts as lts
+use Rattle.reader.proofs.bytes.byte_at.Reads as byte-at-reads
+use Rattle.reader.proofs.operand.displacement_at.Reads as displacement-at-reads
+use Rattle.reader.proofs.operand.low_number.Reads as low-number-reads
+use Rattle.reader.proofs.operand.reg_number.Reads as reg-number-reads
+
+-- src/operand.rt:145:29
+byte-at-requires : tie.Need-byte-at-requires
+byte-at-requires c κs = search needs
+
+-- src/operand.rt:145:18
+enum-known-m : tie.Need-enum-known-m
+enum-known-m c = search needs
+
+-- src/operand.rt:146:9
+enum-told : tie.Need-enum-told
+enum-told c = search needs
+
+-- src/operand.rt:146:9
+returns : tie.Need-returns
+unfolding withModrm
+returns c = λ k. rw (c .before .before .byte-at .ensures, c .enum-told .given .1)
+
+-- src/operand.rt:149:32
+reg-number-requires : tie.Need-reg-number-requires
+reg-number-requires c κs = search needs
+
+-- src/operand.rt:149:50
+low-number-requires : tie.Need-low-number-requires
+low-number-requires c κs = search needs
+
+-- src/operand.rt:149:9
+returns-2 : tie.Need-returns-2
+unfolding withModrm
+returns-2 c = λ k. rw (c .before .before .before .before .before .before .byte-at .ensures, c .before .before .before .before .m .given .1, eqb-true _ _ (c .before .before .if1 .taken), c .before .reg-number .ensures, c .low-number .ensures)
+
+-- src/operand.rt:152:9
+returns-3 : tie.Need-returns-3
+unfolding withModrm
+returns-3 c = λ k. rw (c .before .before .before .before .before .byte-at .ensures, c .before .before .before .m .given .1, eqb-false _ _ (c .before .if1 .left), eqb-true _ _ (c .if2 .taken))
+
+-- src/operand.rt:154:39
+displacement-at-requires : tie.Need-displacement-at-requires
+displacement-at-requires c κs = search needs
+
+-- src/operand.rt:154:18
+enum-known-displacement : tie.Need-enum-known-displacement
+enum-known-displacement c = search needs
+
+-- src/operand.rt:155:9
+enum-told-2 : tie.Need-enum-told-2
+enum-told-2 c = search needs
+
+-- src/operand.rt:155:9
+returns-4 : tie.Need-returns-4
+returns-4 c = λ k. rw (c .before .before .before .before .before .before .before .before .byte-at .ensures, c .before .before .before .before .before .before .m .given .1, c .before .before .displacement-at .ensures, c .enum-told2 .given .1)
+
+-- src/operand.rt:157:19
+reg-number-requires-2 : tie.Need-reg-number-requires-2
+reg-number-requires-2 c κs = search needs
+
+-- src/operand.rt:157:37
+low-number-requires-2 : tie.Need-low-number-requires-2
+low-number-requires-2 c κs = search needs
+
+-- src/operand.rt:142:1
+returns-5 : tie.Need-returns-5
+returns-5 c = λ k. rw (c .before .before .before .before .before .before .before .before .before .before .before .byte-at .ensures, c .before .before .before .before .before .before .before .before .before .m .given .1, c .before .before .before .before .before .displacement-at .ensures, c .before .before .before .displacement .given .1, c .before .reg-number2 .ensures, c .low-number2 .ensures)
+
+pub modrm-at-spec : {M : Type 1} → statement M
+modrm-at-spec =
+    tie.close
+    (tie.spec
+    byte-at-requires
+    enum-known-m
+    enum-told
+    returns
+    reg-number-requires
+    low-number-requires
+    returns-2
+    returns-3
+    displacement-at-requires
+    enum-known-displacement
+    enum-told-2
+    returns-4
+    reg-number-requires-2
+    low-number-requires-2
+    returns-5)

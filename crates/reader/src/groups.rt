@@ -1,0 +1,185 @@
+// The opcodes whose ModRM holds more of the opcode in reg, the manual's /0 to /7 (table A-6).
+ghost use mathlib.Core.Path.{_≡_};
+ghost use lib.ListN.{drop};
+ghost use Rattle.base.specs.declared.Size.the-variants.{S8, S16};
+ghost use Rattle.x86.specs.Instr.{op, storeImm};
+ghost use Rattle.x86.specs.Decode.{number, got, opcode};
+ghost use Rattle.reader.specs.Operand.{rexIs};
+ghost use Rattle.reader.specs.Instruction.{readIs};
+ghost use Rattle.reader.specs.Words.{Stores, Rotates};
+use crate::bytes;
+use crate::bytes::Byte;
+use crate::bytes::Four;
+use crate::forms;
+use crate::forms::Pair;
+use crate::instruction::Alu;
+use crate::instruction::Instruction;
+use crate::instruction::Read;
+use crate::instruction::Shift;
+use crate::instruction::Unary;
+use crate::operand;
+use crate::operand::Modrm;
+use crate::operand::Rex;
+use base::Size;
+
+// 81 id
+pub fn group1_at(code: &[u8], at: usize, x: Rex) -> Read
+    ensures { λ r. ⌜ opcode (rexIs x) 0x81 (drop at (now (code .entry))) ≡ readIs (now (code .entry)) r ⌝ }
+{
+    let w = x.width;
+    let Pair::Is(reg, d, next) = forms::registers_at(code, at, x) else {
+        return Read::Bad;
+    };
+    match reg % 8 {
+        0 => forms::alu_imm_at(code, next, w, d, Alu::Add),
+        1 => forms::alu_imm_at(code, next, w, d, Alu::Or),
+        4 => forms::alu_imm_at(code, next, w, d, Alu::And),
+        5 => forms::alu_imm_at(code, next, w, d, Alu::Sub),
+        6 => forms::alu_imm_at(code, next, w, d, Alu::Xor),
+        7 => forms::alu_imm_at(code, next, w, d, Alu::Cmp),
+        _ => Read::Bad,
+    }
+}
+
+// C1 ib
+pub fn group2_imm_at(code: &[u8], at: usize, x: Rex) -> Read
+    ensures { λ r. ⌜ opcode (rexIs x) 0xc1 (drop at (now (code .entry))) ≡ readIs (now (code .entry)) r ⌝ }
+{
+    let w = x.width;
+    let Pair::Is(reg, d, next) = forms::registers_at(code, at, x) else {
+        return Read::Bad;
+    };
+    match reg % 8 {
+        4 => forms::shift_imm_at(code, next, w, d, Shift::Shl),
+        5 => forms::shift_imm_at(code, next, w, d, Shift::Shr),
+        7 => forms::shift_imm_at(code, next, w, d, Shift::Sar),
+        _ => Read::Bad,
+    }
+}
+
+// D3
+pub fn group2_cl_at(code: &[u8], at: usize, x: Rex) -> Read
+    ensures { λ r. ⌜ opcode (rexIs x) 0xd3 (drop at (now (code .entry))) ≡ readIs (now (code .entry)) r ⌝ }
+{
+    let w = x.width;
+    let Pair::Is(reg, d, next) = forms::registers_at(code, at, x) else {
+        return Read::Bad;
+    };
+    match reg % 8 {
+        4 => Read::Got(Instruction::ShiftCl(Shift::Shl, w, d), next),
+        5 => Read::Got(Instruction::ShiftCl(Shift::Shr, w, d), next),
+        7 => Read::Got(Instruction::ShiftCl(Shift::Sar, w, d), next),
+        _ => Read::Bad,
+    }
+}
+
+// F7
+pub fn group3_at(code: &[u8], at: usize, x: Rex) -> Read
+    ensures { λ r. ⌜ opcode (rexIs x) 0xf7 (drop at (now (code .entry))) ≡ readIs (now (code .entry)) r ⌝ }
+{
+    let w = x.width;
+    let Pair::Is(reg, d, next) = forms::registers_at(code, at, x) else {
+        return Read::Bad;
+    };
+    match reg % 8 {
+        0 => forms::alu_imm_at(code, next, w, d, Alu::Test),
+        3 => Read::Got(Instruction::Unary(Unary::Neg, w, d), next),
+        4 => Read::Got(Instruction::Unary(Unary::Mul, w, d), next),
+        6 => Read::Got(Instruction::Unary(Unary::Div, w, d), next),
+        _ => Read::Bad,
+    }
+}
+
+// FF /2, CALL through a register
+pub fn group5_at(code: &[u8], at: usize, x: Rex) -> Read
+    ensures { λ r. ⌜ opcode (rexIs x) 0xff (drop at (now (code .entry))) ≡ readIs (now (code .entry)) r ⌝ }
+{
+    let Pair::Is(reg, d, next) = forms::registers_at(code, at, x) else {
+        return Read::Bad;
+    };
+    if reg % 8 == 2 {
+        return Read::Got(Instruction::CallReg(d), next);
+    }
+    Read::Bad
+}
+
+fn byte_to_memory(code: &[u8], at: usize, b: u8, v: u32) -> Read
+    ensures { λ r. ⌜ number 1 (λ i. got (op (storeImm S8 b v i))) (drop at (now (code .entry))) ≡ readIs (now (code .entry)) r ⌝ }
+{
+    let Byte::Is(imm, end) = bytes::byte_at(code, at) else {
+        return Read::Bad;
+    };
+    Read::Got(Instruction::StoreImm(Size::S8, b, v, imm as u32), end)
+}
+
+fn two_to_memory(code: &[u8], at: usize, b: u8, v: u32) -> Read
+    ensures { λ r. ⌜ number 2 (λ i. got (op (storeImm S16 b v i))) (drop at (now (code .entry))) ≡ readIs (now (code .entry)) r ⌝ }
+{
+    let Four::Is(imm, end) = bytes::two_at(code, at) else {
+        return Read::Bad;
+    };
+    Read::Got(Instruction::StoreImm(Size::S16, b, v, imm), end)
+}
+
+// C6 /0 ib
+pub fn store_byte_at(code: &[u8], at: usize, x: Rex) -> Read
+    ensures { λ r. ⌜ Stores 1 S8 (rexIs x) (now (code .entry)) at (readIs (now (code .entry)) r) ⌝ }
+{
+    match operand::modrm_at(code, at, x) {
+        Modrm::Bad => Read::Bad,
+        Modrm::Register(_, _, _) => Read::Bad,
+        Modrm::Memory(reg, b, v, next) => match reg % 8 {
+            0 => byte_to_memory(code, next, b, v),
+            _ => Read::Bad,
+        },
+    }
+}
+
+// 66 C7 /0 iw
+pub fn store_two_at(code: &[u8], at: usize, x: Rex) -> Read
+    ensures { λ r. ⌜ Stores 2 S16 (rexIs x) (now (code .entry)) at (readIs (now (code .entry)) r) ⌝ }
+{
+    match operand::modrm_at(code, at, x) {
+        Modrm::Bad => Read::Bad,
+        Modrm::Register(_, _, _) => Read::Bad,
+        Modrm::Memory(reg, b, v, next) => match reg % 8 {
+            0 => two_to_memory(code, next, b, v),
+            _ => Read::Bad,
+        },
+    }
+}
+
+// C7 /0 id, to a register or to memory
+pub fn move_constant_at(code: &[u8], at: usize, x: Rex) -> Read
+    ensures { λ r. ⌜ opcode (rexIs x) 0xc7 (drop at (now (code .entry))) ≡ readIs (now (code .entry)) r ⌝ }
+{
+    let w = x.width;
+    let z = forms::size_of(w);
+    match operand::modrm_at(code, at, x) {
+        Modrm::Bad => Read::Bad,
+        Modrm::Register(reg, d, next) => match reg % 8 {
+            0 => forms::alu_imm_at(code, next, w, d, Alu::Mov),
+            _ => Read::Bad,
+        },
+        Modrm::Memory(reg, b, v, next) => match reg % 8 {
+            0 => forms::store_imm_at(code, next, z, b, v),
+            _ => Read::Bad,
+        },
+    }
+}
+
+// 66 C1 /0 ib, ROL
+pub fn rotate_at(code: &[u8], at: usize, x: Rex) -> Read
+    ensures { λ r. ⌜ Rotates (rexIs x) (now (code .entry)) at (readIs (now (code .entry)) r) ⌝ }
+{
+    let Pair::Is(reg, d, next) = forms::registers_at(code, at, x) else {
+        return Read::Bad;
+    };
+    if reg % 8 == 0 {
+        let Byte::Is(count, end) = bytes::byte_at(code, next) else {
+            return Read::Bad;
+        };
+        return Read::Got(Instruction::Rol16(d, count), end);
+    }
+    Read::Bad
+}

@@ -1,0 +1,132 @@
+-- Numbers as text: the digits, the most significant first, and the law that they are read back as the number.
+-- Assumes nothing.
+use mathlib.Core.Path.{_≡_, refl}
+use mathlib.Core.List.{List, [], _∷_, _++_}
+use Prim.Native.Nat.{ℕ, zero, suc, _+_, _*_, _-_, _/_, _%_, _≤_, _<_, _^_}
+use native.Mathlib.Omega.{arith}
+use lib.Dec.{ltb}
+use borrow.Author.Tests.{lt-ltb, le-ltb, ltb-true, ltb-false}
+use mathlib.Core.Bool.{Bool, true, false}
+use native.Mathlib.Nat.{pow-zero, pow-suc, mod-lt, div-lt-iff-lt-mul, div-add-mod'}
+use Rattle.base.specs.Pick.{pick}
+
+-- the character of a digit below 16: `0` to `9`, then `a` to `f`
+abbrev pub glyph : ℕ → ℕ
+glyph d = pick (ltb d 10) (48 + d) (87 + d)
+
+-- a number in a base, in at most `most` digits: a single digit, or what stands before the last digit and then that
+abbrev pub numeral : ℕ → ℕ → ℕ → List ℕ
+numeral b zero n = []
+numeral b (suc most) n = pick (ltb n b) (glyph n ∷ []) (numeral b most (n / b) ++ glyph (n % b) ∷ [])
+
+-- 64 bits have at most 20 decimal digits, and 16 hexadecimal ones
+unfoldable pub decimal : ℕ → List ℕ
+decimal n = numeral 10 20 n
+
+unfoldable pub hex : ℕ → List ℕ
+hex n = numeral 16 16 n
+
+-- a byte, always in two digits
+abbrev pub hexByte : ℕ → List ℕ
+hexByte x = glyph (x / 16) ∷ glyph (x % 16) ∷ []
+
+-- A number in two's complement at 64 bits: with a minus where it is negative; with its sign always; with its sign apart, as a sum or a difference
+abbrev pub signed : ℕ → List ℕ
+signed x = pick (ltb x (2 ^ 63)) (decimal x) (45 ∷ decimal (2 ^ 64 - x))
+
+abbrev pub withSign : ℕ → List ℕ
+withSign x = pick (ltb x (2 ^ 63)) (43 ∷ decimal x) (45 ∷ decimal (2 ^ 64 - x))
+
+abbrev pub apart : ℕ → List ℕ
+apart x = pick (ltb x (2 ^ 63)) (43 ∷ 32 ∷ decimal x) (45 ∷ 32 ∷ decimal (2 ^ 64 - x))
+
+-- what the function that writes a numeral meets: no digit, one, or more
+pub numeral-none : (b n : ℕ) {most : ℕ} → most ≡ 0 → [] ≡ numeral b most n
+numeral-none b n e = rw e
+
+pub numeral-one : (b n most : ℕ) → ¬ (most ≡ 0) → n < b → glyph n ∷ [] ≡ numeral b most n
+numeral-one b n zero f h = absurd (f refl)
+numeral-one b n (suc most) f h = rw (lt-ltb n b h)
+
+pub numeral-more : (b n most : ℕ) → ¬ (most ≡ 0) → b ≤ n → numeral b (most - 1) (n / b) ++ (glyph (n % b) ∷ []) ≡ numeral b most n
+numeral-more b n zero f h = absurd (f refl)
+numeral-more b n (suc most) f h = let e : suc most - 1 ≡ most = omega arith in rw (e, le-ltb n b h)
+
+-- the two signs, as the code computes them
+back : (x : ℕ) → x < 2 ^ 64 → 18446744073709551615 - x + 1 ≡ 2 ^ 64 - x
+back x h = omega arith
+
+pub signed-plus : (x : ℕ) → x < 2 ^ 63 → decimal x ≡ signed x
+signed-plus x h = rw (lt-ltb x (2 ^ 63) h)
+
+pub signed-minus : (x : ℕ) → 2 ^ 63 ≤ x → x < 2 ^ 64 → 45 ∷ decimal (18446744073709551615 - x + 1) ≡ signed x
+signed-minus x h g = rw (back x g, le-ltb x (2 ^ 63) h)
+
+pub with-sign-plus : (x : ℕ) → x < 2 ^ 63 → 43 ∷ decimal x ≡ withSign x
+with-sign-plus x h = rw (lt-ltb x (2 ^ 63) h)
+
+pub with-sign-minus : (x : ℕ) → 2 ^ 63 ≤ x → x < 2 ^ 64 → 45 ∷ decimal (18446744073709551615 - x + 1) ≡ withSign x
+with-sign-minus x h g = rw (back x g, le-ltb x (2 ^ 63) h)
+
+pub apart-plus : (x : ℕ) → x < 2 ^ 63 → 43 ∷ 32 ∷ decimal x ≡ apart x
+apart-plus x h = rw (lt-ltb x (2 ^ 63) h)
+
+pub apart-minus : (x : ℕ) → 2 ^ 63 ≤ x → x < 2 ^ 64 → 45 ∷ 32 ∷ decimal (18446744073709551615 - x + 1) ≡ apart x
+apart-minus x h g = rw (back x g, le-ltb x (2 ^ 63) h)
+
+-- A numeral, read back.
+abbrev worth : ℕ → ℕ
+worth c = pick (ltb c 58) (c - 48) (c - 87)
+
+abbrev readFrom : ℕ → ℕ → List ℕ → ℕ
+readFrom b n [] = n
+readFrom b n (c ∷ cs) = readFrom b (n * b + worth c) cs
+
+abbrev pub read : ℕ → List ℕ → ℕ
+read b cs = readFrom b 0 cs
+
+worth-glyph : (d : ℕ) → d < 16 → worth (glyph d) ≡ d
+worth-glyph d h = by (ltb d 10) refl
+  where
+    by : (t : Bool) → ltb d 10 ≡ t → worth (glyph d) ≡ d
+    by true e = let g : d < 10 = ltb-true _ _ e in rw (e, lt-ltb (48 + d) 58 (omega arith)) (omega arith)
+    by false e = let g : 10 ≤ d = ltb-false _ _ e in rw (e, le-ltb (87 + d) 58 (omega arith)) (omega arith)
+
+read-last : (b n c : ℕ) (cs : List ℕ) → readFrom b n (cs ++ (c ∷ [])) ≡ readFrom b n cs * b + worth c
+read-last b n c [] = refl
+read-last b n c (d ∷ cs) = read-last b (n * b + worth d) c cs
+
+module _ (b : ℕ) (more : 1 < b) (most16 : b ≤ 16) where
+  read-digit : (most n : ℕ) → (n / b < b ^ most → read b (numeral b most (n / b)) ≡ n / b) → n < b ^ suc most → read b (numeral b (suc most) n) ≡ n
+  read-digit most n ih h = by (ltb n b) refl
+    where
+      by : (t : Bool) → ltb n b ≡ t → read b (numeral b (suc most) n) ≡ n
+      by true e = let g : n < b = ltb-true _ _ e in rw (e, worth-glyph n (omega arith)) (omega arith)
+      by false e =
+          let p : 0 < b = omega arith in
+          let m = mod-lt n {m = b} p in
+          rw (e, read-last b 0 (glyph (n % b)) (numeral b most (n / b)), ih (div-lt-iff-lt-mul p .1 (rw (pow-suc b most) at h)), worth-glyph (n % b) (omega arith)) (div-add-mod' n b)
+
+  pub read-back : (most n : ℕ) → n < b ^ most → read b (numeral b most n) ≡ n
+  read-back zero n h = omega (arith, rw (pow-zero b) at h)
+  read-back (suc most) n h = read-digit most n (read-back most (n / b)) h
+
+pub decimal-back : (n : ℕ) → n < 2 ^ 64 → read 10 (decimal n) ≡ n
+unfolding decimal
+decimal-back n h = read-back 10 (omega arith) (omega arith) 20 n (omega arith)
+
+pub hex-back : (n : ℕ) → n < 2 ^ 64 → read 16 (hex n) ≡ n
+unfolding hex
+hex-back n h = read-back 16 (omega arith) (omega arith) 16 n (omega arith)
+
+-- A 32-bit two's complement number at 64 bits: no sign is lost.
+abbrev pub extended : ℕ → ℕ
+extended x = pick (ltb x (2 ^ 31)) x (x + 18446744069414584320)
+
+pub extended-plus : (x : ℕ) → x < 2 ^ 31 → signed (extended x) ≡ decimal x
+extended-plus x h = rw (lt-ltb x (2 ^ 31) h, lt-ltb x (2 ^ 63) (omega arith))
+
+pub extended-minus : (x : ℕ) → 2 ^ 31 ≤ x → x < 2 ^ 32 → signed (extended x) ≡ 45 ∷ decimal (2 ^ 32 - x)
+extended-minus x h g =
+    let e : 2 ^ 64 - (x + 18446744069414584320) ≡ 2 ^ 32 - x = omega arith in
+    rw (le-ltb x (2 ^ 31) h, le-ltb (x + 18446744069414584320) (2 ^ 63) (omega arith), e)

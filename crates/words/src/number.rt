@@ -1,0 +1,105 @@
+// Numbers into a lent buffer, as text.rt does bytes.
+ghost use mathlib.Core.Path.{_≡_};
+ghost use mathlib.Core.List.{[], _∷_};
+ghost use Prim.Native.Nat.{_≤_, _<_};
+ghost use Rattle.words.specs.Numerals.{numeral, decimal, hex, hexByte, signed, withSign, apart};
+ghost use Rattle.words.specs.Numerals.{extended as Numerals·extended};
+ghost use Rattle.words.specs.Numerals.{glyph as Numerals·glyph};
+ghost use Rattle.words.specs.Text.{Says};
+use crate::text::put_byte;
+
+const HALF: u64 = 9223372036854775808;
+
+const LARGEST: u64 = 18446744073709551615;
+
+fn glyph(d: u64) -> u8
+    requires { ⌜ d < 16 ⌝ }
+    ensures { λ r. ⌜ r ≡ Numerals·glyph d ⌝ }
+{
+    if d < 10 {
+        return 48 + d as u8;
+    }
+    87 + d as u8
+}
+
+// At most `most` digits of n.
+fn put_numeral(out: &mut [u8], at: usize, base: u64, most: usize, n: u64) -> usize
+    requires { ⌜ (1 < base) × (base ≤ 16) ⌝ }
+    ensures { λ r. ⌜ Says (now (out .entry)) (now (out .exit)) at r (numeral base most n) ⌝ }
+{
+    if most == 0 {
+        return at;
+    }
+    if n < base {
+        return put_byte(out, at, glyph(n));
+    }
+    let last = glyph(n % base);
+    let next = put_numeral(out, at, base, most - 1, n / base);
+    put_byte(out, next, last)
+}
+
+pub fn put_decimal(out: &mut [u8], at: usize, n: u64) -> usize
+    ensures { λ r. ⌜ Says (now (out .entry)) (now (out .exit)) at r (decimal n) ⌝ }
+{
+    put_numeral(out, at, 10, 20, n)
+}
+
+pub fn put_hex(out: &mut [u8], at: usize, n: u64) -> usize
+    ensures { λ r. ⌜ Says (now (out .entry)) (now (out .exit)) at r (hex n) ⌝ }
+{
+    put_numeral(out, at, 16, 16, n)
+}
+
+pub fn put_hex_byte(out: &mut [u8], at: usize, x: u8) -> usize
+    ensures { λ r. ⌜ Says (now (out .entry)) (now (out .exit)) at r (hexByte x) ⌝ }
+{
+    let next = put_byte(out, at, glyph((x / 16) as u64));
+    put_byte(out, next, glyph((x % 16) as u64))
+}
+
+// A number in two's complement, with a minus where it is negative.
+pub fn put_signed(out: &mut [u8], at: usize, x: u64) -> usize
+    ensures { λ r. ⌜ Says (now (out .entry)) (now (out .exit)) at r (signed x) ⌝ }
+{
+    if x < HALF {
+        return put_decimal(out, at, x);
+    }
+    let next = put_byte(out, at, b'-');
+    put_decimal(out, next, LARGEST - x + 1)
+}
+
+// The same with its sign always.
+pub fn put_with_sign(out: &mut [u8], at: usize, x: u64) -> usize
+    ensures { λ r. ⌜ Says (now (out .entry)) (now (out .exit)) at r (withSign x) ⌝ }
+{
+    if x < HALF {
+        let next = put_byte(out, at, b'+');
+        return put_decimal(out, next, x);
+    }
+    let next = put_byte(out, at, b'-');
+    put_decimal(out, next, LARGEST - x + 1)
+}
+
+// The same with its sign apart, as a sum or a difference.
+pub fn put_apart(out: &mut [u8], at: usize, x: u64) -> usize
+    ensures { λ r. ⌜ Says (now (out .entry)) (now (out .exit)) at r (apart x) ⌝ }
+{
+    if x < HALF {
+        let next = put_byte(out, at, b'+');
+        let next = put_byte(out, next, b' ');
+        return put_decimal(out, next, x);
+    }
+    let next = put_byte(out, at, b'-');
+    let next = put_byte(out, next, b' ');
+    put_decimal(out, next, LARGEST - x + 1)
+}
+
+// A 32-bit two's complement number at 64 bits.
+pub fn extended(x: u32) -> u64
+    ensures { λ r. ⌜ r ≡ Numerals·extended x ⌝ }
+{
+    if x < 2147483648 {
+        return x as u64;
+    }
+    x as u64 + 18446744069414584320
+}
