@@ -1,0 +1,65 @@
+//! The bench: rbpf's own JIT and this project's library, put to the same
+//! programs in one run.
+//!
+//! Here stand the two documents, as in the oracle, and the names they expect
+//! at the crate root: real ones here, so that what they cost is counted. The
+//! programs are in `programs.rs`; `measure.rs` runs and marks them.
+//!
+//!     bench count CORPUS [FILTER ..]    mark each translation for icount.c
+//!     bench time CORPUS [FILTER ..]     time each translation
+//!
+//! Either prints a line for each row: its label, its table, its name, how many
+//! programs and slots it has, and, of `time`, nanoseconds of the Rust and ours.
+
+mod map;
+mod measure;
+mod programs;
+
+// The documents: neither formatted nor mended.
+#[path = "../../docs/src/ebpf.rs"]
+#[allow(dead_code, clippy::all)]
+#[rustfmt::skip]
+mod ebpf;
+#[path = "../../docs/src/jit.rs"]
+#[allow(dead_code, clippy::all)]
+#[rustfmt::skip]
+mod jit;
+
+// The oracle's reader of case streams, and of its stand-ins those that keep
+// no notes: the error type and the crate `byteorder`.
+#[path = "../../oracle/src/observe.rs"]
+#[allow(dead_code, unused_imports, unused_macros)]
+mod observe;
+#[path = "../../oracle/src/stream.rs"]
+#[allow(dead_code)]
+mod stream;
+
+// What jit.rs and ebpf.rs take from the crate root.
+pub(crate) use map::HashMap;
+pub(crate) use observe::{Error, ErrorKind};
+pub(crate) use std::{format, vec, vec::Vec};
+mod lib {
+    pub use crate::observe::byteorder;
+}
+
+fn main() -> std::process::ExitCode {
+    let words: Vec<String> = std::env::args().skip(1).collect();
+    let words: Vec<&str> = words.iter().map(String::as_str).collect();
+    let (measured, files) = match words[..] {
+        ["count", ..] if words.len() > 1 => (measure::Measured::Counted, &words[1..]),
+        ["time", ..] if words.len() > 1 => (measure::Measured::Timed, &words[1..]),
+        _ => {
+            eprintln!("usage: bench count|time CORPUS [FILTER ..]");
+            return 2.into();
+        }
+    };
+    let outcome =
+        programs::rows(files[0], &files[1..]).and_then(|rows| measure::all(measured, &rows));
+    match outcome {
+        Ok(()) => 0.into(),
+        Err(sentence) => {
+            eprintln!("bench: {sentence}");
+            1.into()
+        }
+    }
+}

@@ -1,0 +1,205 @@
+//! Runs a row's programs through the Rust and through the library, sees that
+//! both gave the same code, and marks or times each translation.
+//!
+//! One translation of the Rust is `JitMemory::new` of the no-std form, with
+//! what it does inside: `Vec`s on the heap, hashing, assertions. Ours is one
+//! call of `ndakoleem_translate`. Neither allocates the page or clears it, and
+//! the Rust's map of helpers is made beforehand.
+
+use std::hint::black_box;
+use std::time::{Duration, Instant};
+
+use crate::observe::debug_number;
+use crate::programs::Row;
+use crate::stream::Case;
+use crate::{ebpf, jit, HashMap};
+use ndakoleem::raw;
+
+#[derive(Clone, Copy)]
+pub enum Measured {
+    Counted,
+    Timed,
+}
+
+const PAGE: usize = 131_072;
+const ENTRIES: usize = 4_096;
+/// A timed row goes on for at least this long.
+const AT_LEAST: Duration = Duration::from_millis(200);
+
+/// The Rust asks for a page at a multiple of 4,096.
+#[repr(align(4096))]
+struct Page([u8; PAGE]);
+
+/// What both are lent.
+struct Lent {
+    rust_page: Box<Page>,
+    our_page: Box<Page>,
+    tables: [Vec<u32>; 3],
+}
+
+#[inline(never)]
+fn run_rust(case: &Case, helpers: &HashMap<u32, ebpf::Helper>, page: &mut [u8]) -> bool {
+    let done =
+        jit::JitMemory::new(&case.program, page, helpers, case.use_mbuff, case.update_data_ptr);
+    black_box(&done).is_ok()
+}
+
+/// As `run_rust`, with the code's length where the program is accepted, which
+/// jit.rs shows in its Debug text only.
+fn rust_length(case: &Case, helpers: &HashMap<u32, ebpf::Helper>, page: &mut [u8]) -> Option<usize> {
+    let done =
+        jit::JitMemory::new(&case.program, page, helpers, case.use_mbuff, case.update_data_ptr);
+    done.ok().map(|memory| debug_number(&format!("{memory:?}"), "offset: ") as usize)
+}
+
+#[inline(never)]
+fn run_ours(case: &Case, page: &mut [u8], tables: &mut [Vec<u32>; 3]) -> raw::Translation {
+    let [locations, fields, targets] = tables;
+    let [l, f, t] = case.table_lens.map(|length| (length as usize).min(ENTRIES));
+    unsafe {
+        raw::ndakoleem_translate(
+            case.program.as_ptr(),
+            case.program.len(),
+            case.use_mbuff,
+            case.update_data_ptr,
+            case.helper_ids.as_ptr(),
+            case.helper_ids.len(),
+            case.helper_addresses.as_ptr(),
+            case.helper_addresses.len(),
+            page.as_mut_ptr(),
+            page.len(),
+            locations.as_mut_ptr(),
+            l,
+            fields.as_mut_ptr(),
+            f,
+            targets.as_mut_ptr(),
+            t,
+        )
+    }
+}
+
+/// System calls that no kernel has: `icount.c` sees them.
+#[inline(always)]
+fn mark(number: u64, label: u64) {
+    unsafe {
+        std::arch::asm!("syscall", inlateout("rax") number => _, in("rdi") label,
+            out("rcx") _, out("r11") _, options(nostack));
+    }
+}
+
+fn begin(label: u64) {
+    mark(500_000, label);
+}
+
+fn end() {
+    mark(500_001, 0);
+}
+
+fn helpers_of(case: &Case) -> HashMap<u32, ebpf::Helper> {
+    let mut helpers = HashMap::new();
+    for (id, address) in case.helper_ids.iter().zip(&case.helper_addresses) {
+        helpers.insert(*id, *address as usize);
+    }
+    helpers
+}
+
+/// Has both translate a case and compares their answers. The page's length
+/// where the case belongs in its row: accepted, or in a row of refusals refused.
+fn prepared(case: &Case, refused: bool, lent: &mut Lent) -> Result<Option<usize>, String> {
+    let length = case.code_len as usize;
+    if length > PAGE {
+        return Ok(None);
+    }
+    let ours = run_ours(case, &mut lent.our_page.0[..length], &mut lent.tables);
+    if (ours.number == 0) == refused {
+        return Ok(None);
+    }
+    let rust = rust_length(case, &helpers_of(case), &mut lent.rust_page.0[..length]);
+    if rust != (!refused).then_some(ours.length) {
+        return Err(format!("the Rust gives {rust:?} and the library {ours:?}"));
+    }
+    let written = ours.length;
+    if lent.our_page.0[..written] != lent.rust_page.0[..written] {
+        return Err("the two codes differ".to_string());
+    }
+    Ok(Some(length))
+}
+
+fn counted(label: u64, case: &Case, length: usize, lent: &mut Lent) {
+    let helpers = helpers_of(case);
+    let page = &mut lent.rust_page.0[..length];
+    begin(label);
+    black_box(run_rust(black_box(case), &helpers, page));
+    end();
+    let page = &mut lent.our_page.0[..length];
+    begin(label + 1);
+    black_box(run_ours(black_box(case), page, &mut lent.tables));
+    end();
+}
+
+/// Nanoseconds of one translation, the shortest of five rounds.
+fn timed(mut once: impl FnMut()) -> f64 {
+    let mut repeats = 1u32;
+    loop {
+        let begun = Instant::now();
+        (0..repeats).for_each(|_| once());
+        if begun.elapsed() >= AT_LEAST / 5 {
+            break;
+        }
+        repeats *= 2;
+    }
+    let rounds = (0..5).map(|_| {
+        let begun = Instant::now();
+        (0..repeats).for_each(|_| once());
+        begun.elapsed().as_nanos() as f64 / f64::from(repeats)
+    });
+    rounds.fold(f64::INFINITY, f64::min)
+}
+
+/// Nanoseconds for all of a row's cases once, of the Rust and ours.
+fn times(cases: &[(&Case, usize)], lent: &mut Lent) -> (f64, f64) {
+    let helpers: Vec<_> = cases.iter().map(|(case, _)| helpers_of(case)).collect();
+    let rust = timed(|| {
+        for ((case, length), helpers) in cases.iter().zip(&helpers) {
+            black_box(run_rust(black_box(case), helpers, &mut lent.rust_page.0[..*length]));
+        }
+    });
+    let ours = timed(|| {
+        for (case, length) in cases {
+            black_box(run_ours(black_box(case), &mut lent.our_page.0[..*length], &mut lent.tables));
+        }
+    });
+    (rust, ours)
+}
+
+/// Label 0 is the cost of the marks themselves.
+pub fn all(measured: Measured, rows: &[Row]) -> Result<(), String> {
+    let page = || Box::new(Page([0; PAGE]));
+    let mut lent =
+        Lent { rust_page: page(), our_page: page(), tables: [0, 1, 2].map(|_| vec![0; ENTRIES]) };
+    begin(0);
+    end();
+    for (at, row) in rows.iter().enumerate() {
+        let label = 2 + 2 * at as u64;
+        let refused = row.table == "refused";
+        let mut cases = Vec::new();
+        for case in &row.cases {
+            let ready = prepared(case, refused, &mut lent);
+            let ready = ready.map_err(|why| format!("{}: {why}", row.name))?;
+            cases.extend(ready.map(|length| (case, length)));
+        }
+        let slots: usize = cases.iter().map(|(case, _)| case.slots()).sum();
+        print!("{label}\t{}\t{}\t{}\t{slots}", row.table, row.name, cases.len());
+        match measured {
+            Measured::Counted => {
+                cases.iter().for_each(|(case, length)| counted(label, case, *length, &mut lent));
+                println!();
+            }
+            Measured::Timed => {
+                let (rust, ours) = times(&cases, &mut lent);
+                println!("\t{rust:.0}\t{ours:.0}");
+            }
+        }
+    }
+    Ok(())
+}

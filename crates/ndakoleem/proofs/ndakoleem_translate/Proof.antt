@@ -1,0 +1,91 @@
+-- `ndakoleem_translate` meets its contract: of either case of the answer the struct holds its four numbers.
+-- Assumes nothing.
+use mathlib.Core.Path.{refl}
+use borrow.Author.Needs.{needs}
+use Rattle.ndakoleem.proofs.ndakoleem_translate.Statement.{statement}
+use Rattle.ndakoleem.proofs.ndakoleem_translate.Tie as tie
+
+translate-requires : tie.Need-translate-requires
+translate-requires c κs = search needs
+
+enum-known-refusal : tie.Need-enum-known-refusal
+enum-known-refusal c = search needs
+
+number-of-requires : tie.Need-number-of-requires
+number-of-requires c κs = search needs
+
+slot-of-requires : tie.Need-slot-of-requires
+slot-of-requires c κs = search needs
+
+enum-known-length : tie.Need-enum-known-length
+enum-known-length c = search needs
+
+same-length : tie.Need-same-length
+same-length c = search needs
+
+same-length-2 : tie.Need-same-length-2
+same-length-2 c = search needs
+
+same-length-3 : tie.Need-same-length-3
+same-length-3 c = search needs
+
+same-length-4 : tie.Need-same-length-4
+same-length-4 c = search needs
+
+returns : tie.Need-returns
+returns c =
+    let told = c .before .before .before .refusal .given .1 in
+    let done = c .before .before .before .before .before .before .before .before .before .before .before .before .before .translate in
+    record {
+      answer = done .result;
+      translated = done .ensures;
+      number = rw told (c .before .number-of .ensures);
+      slot = rw told (c .slot-of .ensures);
+      length = rw told refl;
+      jumps = rw told refl;
+    }
+
+same-length-5 : tie.Need-same-length-5
+same-length-5 c = search needs
+
+same-length-6 : tie.Need-same-length-6
+same-length-6 c = search needs
+
+same-length-7 : tie.Need-same-length-7
+same-length-7 c = search needs
+
+same-length-8 : tie.Need-same-length-8
+same-length-8 c = search needs
+
+returns-2 : tie.Need-returns-2
+returns-2 c =
+    let told = c .before .length .given .1 in
+    let done = c .before .before .before .before .before .before .before .before .before .before .before .translate in
+    record {
+      answer = done .result;
+      translated = done .ensures;
+      number = rw told refl;
+      slot = rw told refl;
+      length = rw told refl;
+      jumps = rw told refl;
+    }
+
+pub ndakoleem-translate-spec : {M : Type 1} → statement M
+ndakoleem-translate-spec =
+    tie.close
+    (tie.spec
+    translate-requires
+    enum-known-refusal
+    number-of-requires
+    slot-of-requires
+    enum-known-length
+    same-length
+    same-length-2
+    same-length-3
+    same-length-4
+    returns
+    same-length-5
+    same-length-6
+    same-length-7
+    same-length-8
+    returns-2)

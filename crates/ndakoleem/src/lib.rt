@@ -1,0 +1,76 @@
+// The translator and the sentences as C sees them: the library that `rt staticlib ndakoleem` writes. It only hands on what it is given and
+// puts the answer into a struct of four numbers, since an enum does not pass the boundary. The declarations for C are include/ndakoleem.h.
+ghost use lib.ListN.{length};
+ghost use Rattle.jit.specs.Translation.{Inputs, translationOf};
+ghost use Rattle.ndakoleem.specs.Exported.{Exported};
+ghost use Rattle.words.specs.Sentences.{sentenceOf};
+ghost use Rattle.words.specs.Text.{Says};
+use jit::Flags;
+use translator::translate::Answer;
+use translator::translate::translate;
+
+// Accepted: number 0, slot 0, the code's length and the count of jumps. Refused: document 01's number and slot, and 0 for the other two.
+#[repr(C)]
+pub struct Translation {
+    pub number: u8,
+    pub slot: usize,
+    pub length: usize,
+    pub jumps: usize,
+}
+
+// The four numbers of `translate`'s answer; what is lent is left as `translate` leaves it (specs/Exported.antt).
+#[no_mangle]
+pub extern "C" fn ndakoleem_translate(
+    program: &[u8],
+    use_mbuff: bool,
+    update_data_ptr: bool,
+    ids: &[u32],
+    addresses: &[u64],
+    code: &mut [u8],
+    locations: &mut [u32],
+    fields: &mut [u32],
+    targets: &mut [u32],
+) -> Translation
+    ensures { λ r. ⌜ Exported (translationOf (record { program = now (program .entry); flags = record { «use_mbuff» = «use_mbuff»; «update_data_ptr» = «update_data_ptr» }; ids = now (ids .entry); addresses = now (addresses .entry); page = length (now (code .entry)); locations = length (now (locations .entry)); fields = length (now (fields .entry)); targets = length (now (targets .entry)) })) (now (code .entry)) (now (code .exit)) (now (locations .entry)) (now (locations .exit)) (now (fields .entry)) (now (fields .exit)) (now (targets .entry)) (now (targets .exit)) r ⌝ }
+{
+    let flags = Flags {
+        use_mbuff: use_mbuff,
+        update_data_ptr: update_data_ptr,
+    };
+    match translate(
+        program,
+        flags,
+        ids,
+        addresses,
+        code,
+        locations,
+        fields,
+        targets,
+    ) {
+        Answer::Refused(refusal) => Translation {
+            number: refusals::number_of(refusal),
+            slot: refusals::slot_of(refusal),
+            length: 0,
+            jumps: 0,
+        },
+        Answer::Accepted { length, jumps } => Translation {
+            number: 0,
+            slot: 0,
+            length: length,
+            jumps: jumps,
+        },
+    }
+}
+
+// A refusal in words: what `sentence` says of the program, the number and the slot, at the start of `out`, cut where it does not fit.
+#[no_mangle]
+pub extern "C" fn ndakoleem_sentence(
+    program: &[u8],
+    number: u8,
+    slot: usize,
+    out: &mut [u8],
+) -> usize
+    ensures { λ r. ⌜ Says (now (out .entry)) (now (out .exit)) 0 r (sentenceOf (now (program .entry)) number slot) ⌝ }
+{
+    words::sentence::sentence(program, number, slot, out)
+}

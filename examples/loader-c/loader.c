@@ -1,0 +1,138 @@
+/* A loader in C: reads a filter, has it translated, maps its page, and runs it over the packets of a pcap.
+ *
+ *   loader [--raw] FILTER PCAP
+ *
+ * FILTER is bytecode, eight bytes a slot. r1 of the filter is a struct packet, the addresses of the packet's first byte and of the byte behind
+ * its last; with --raw it is the packet itself, with zeros behind it up to 64 bytes at least. What the filter gives is the verdict: 0 turns the
+ * packet down, anything else keeps it. A filter is run as it is: one that reads outside the packet or never ends takes the loader with it. */
+#include <stdbool.h>
+#include <stdio.h>
+#include <stdlib.h>
+#include <string.h>
+#include <sys/mman.h>
+#include <unistd.h>
+
+#include "ndakoleem.h"
+
+enum { PACKET_MAX = 262144, RAW_LEAST = 64, FILE_HEADER = 24, PACKET_HEADER = 16 };
+
+typedef uint64_t (*page_function)(void *mbuff, size_t mbuff_length, uint8_t *packet, size_t packet_length, size_t, size_t);
+
+/* r1 of a filter that is not raw. */
+struct packet {
+    const uint8_t *data;
+    const uint8_t *data_end;
+};
+
+struct bytes {
+    uint8_t *at;
+    size_t length;
+};
+
+static _Noreturn void fail(const char *name, const char *why) {
+    fprintf(stderr, "loader: %s: %s\n", name, why);
+    exit(2);
+}
+
+static struct bytes read_file(const char *name) {
+    FILE *file = fopen(name, "rb");
+    if (file == NULL) fail(name, "cannot be opened");
+    struct bytes read = {malloc(1), 0};
+    size_t room = 1, more;
+    while (read.at != NULL && (more = fread(read.at + read.length, 1, room - read.length, file)) > 0) {
+        read.length += more;
+        if (read.length == room) read.at = realloc(read.at, room *= 2);
+    }
+    if (read.at == NULL) fail(name, "there is no memory for it");
+    if (ferror(file)) fail(name, "cannot be read");
+    fclose(file);
+    return read;
+}
+
+/* The helpers that a filter may call. The page enters them with the stack 8 bytes off what C expects, so each aligns it for itself. */
+#define HELPER __attribute__((force_align_arg_pointer)) static uint64_t
+
+/* 1: is the IPv4 address a subscriber's? Here, the addresses whose last byte is a multiple of 7. */
+HELPER is_subscribed(uint64_t address) {
+    return (address & 0xff) % 7 == 0;
+}
+
+/* 2: five numbers mixed into 32 bits. */
+HELPER mix(uint64_t a, uint64_t b, uint64_t c, uint64_t d, uint64_t e) {
+    uint64_t sum = (((a * 31 + b) * 31 + c) * 31 + d) * 31 + e;
+    return (sum >> 32) ^ (sum & 0xffffffff);
+}
+
+static const uint32_t helper_ids[] = {1, 2};
+enum { HELPERS = sizeof helper_ids / sizeof helper_ids[0] };
+
+/* The filter's code in a mapping of its own, executable and no longer writable; a refusal ends the program with its sentence. */
+static page_function load(const char *name, bool raw) {
+    static uint8_t code[NDAKOLEEM_CODE_ENOUGH];
+    static uint32_t locations[NDAKOLEEM_TABLE_ENOUGH], fields[NDAKOLEEM_TABLE_ENOUGH], targets[NDAKOLEEM_TABLE_ENOUGH];
+    const uint64_t helpers[HELPERS] = {(uint64_t)is_subscribed, (uint64_t)mix};
+    struct bytes program = read_file(name);
+    struct ndakoleem_translation done =
+        ndakoleem_translate(program.at, program.length, !raw, false, helper_ids, HELPERS, helpers, HELPERS, code, sizeof code, locations,
+                            NDAKOLEEM_TABLE_ENOUGH, fields, NDAKOLEEM_TABLE_ENOUGH, targets, NDAKOLEEM_TABLE_ENOUGH);
+    if (done.number != NDAKOLEEM_ACCEPTED) {
+        char sentence[NDAKOLEEM_SENTENCE_ENOUGH];
+        size_t length = ndakoleem_sentence(program.at, program.length, done.number, done.slot, sentence, sizeof sentence);
+        fprintf(stderr, "loader: %s is refused: %.*s\n", name, (int)length, sentence);
+        exit(1);
+    }
+    printf("%s: %zu slots, %zu bytes of code\n", name, program.length / 8, done.length);
+    free(program.at);
+    void *page = mmap(NULL, done.length, PROT_READ | PROT_WRITE, MAP_PRIVATE | MAP_ANONYMOUS, -1, 0);
+    if (page == MAP_FAILED) fail(name, "its page cannot be mapped");
+    memcpy(page, code, done.length);
+    if (mprotect(page, done.length, PROT_READ | PROT_EXEC) != 0) fail(name, "its page cannot be made executable");
+    return (page_function)page;
+}
+
+static bool keeps(page_function page, bool raw, const uint8_t *data, size_t length) {
+    static uint8_t buffer[PACKET_MAX + RAW_LEAST];
+    memset(buffer + length, 0, RAW_LEAST);
+    memcpy(buffer, data, length);
+    struct packet packet = {buffer, buffer + length};
+    return page(raw ? NULL : &packet, raw ? 0 : sizeof packet, buffer, length, 0, 0) != 0;
+}
+
+static uint32_t number_at(const uint8_t *at, bool swapped) {
+    uint32_t low_first = at[0] | (uint32_t)at[1] << 8 | (uint32_t)at[2] << 16 | (uint32_t)at[3] << 24;
+    return swapped ? __builtin_bswap32(low_first) : low_first;
+}
+
+/* A pcap's packets are numbered from 1, as tcpdump and tshark number them. */
+static void run(page_function page, bool raw, const char *name) {
+    struct bytes pcap = read_file(name);
+    uint32_t magic = pcap.length < FILE_HEADER ? 0 : number_at(pcap.at, false);
+    bool swapped = magic == 0xd4c3b2a1 || magic == 0x4d3cb2a1;
+    if (!swapped && magic != 0xa1b2c3d4 && magic != 0xa1b23c4d) fail(name, "is no pcap");
+    size_t at = FILE_HEADER, packets = 0, kept = 0, bytes = 0;
+    printf("packet  length  verdict\n");
+    while (pcap.length - at >= PACKET_HEADER) {
+        size_t length = number_at(pcap.at + at + 8, swapped);
+        at += PACKET_HEADER;
+        if (length > PACKET_MAX || length > pcap.length - at) fail(name, "ends inside a packet, or has one that is too long");
+        bool keep = keeps(page, raw, pcap.at + at, length);
+        at += length;
+        packets += 1;
+        kept += keep;
+        bytes += keep ? length : 0;
+        printf("%6zu  %6zu  %s\n", packets, length, keep ? "kept" : "-");
+    }
+    if (at != pcap.length) fail(name, "ends inside a packet's header");
+    printf("kept %zu of %zu packets, %zu bytes\n", kept, packets, bytes);
+    free(pcap.at);
+}
+
+int main(int count, char **words) {
+    bool raw = count == 4 && strcmp(words[1], "--raw") == 0;
+    if (count != 3 + raw) {
+        fprintf(stderr, "usage: loader [--raw] FILTER PCAP\n");
+        return 2;
+    }
+    run(load(words[1 + raw], raw), raw, words[2 + raw]);
+    return 0;
+}

@@ -1,0 +1,192 @@
+//! A loader in Rust: reads a filter, has it translated, maps its page, and
+//! runs it over the packets of a pcap.
+//!
+//!     loader [--raw] FILTER PCAP
+//!
+//! FILTER is bytecode, eight bytes a slot. r1 of the filter is a `Packet`, the
+//! addresses of the packet's first byte and of the byte behind its last; with
+//! --raw it is the packet itself, with zeros behind it up to 64 bytes at
+//! least. What the filter gives is the verdict: 0 turns the packet down,
+//! anything else keeps it. A filter is run as it is: one that reads outside
+//! the packet or never ends takes the loader with it.
+
+use std::error::Error;
+use std::process::ExitCode;
+use std::ptr;
+
+use ndakoleem::{translate, Flags, Helpers, Tables, CODE_ENOUGH, TABLE_ENOUGH};
+
+type Outcome<T> = Result<T, Box<dyn Error>>;
+type Page = unsafe extern "sysv64" fn(*mut Packet, usize, *mut u8, usize, usize, usize) -> u64;
+
+const FILE_HEADER: usize = 24;
+const PACKET_HEADER: usize = 16;
+const RAW_LEAST: usize = 64;
+
+/// r1 of a filter that is not raw.
+#[repr(C)]
+struct Packet {
+    data: *const u8,
+    data_end: *const u8,
+}
+
+// What the C library has for mappings, on x86-64 Linux.
+const PROT_READ: i32 = 1;
+const PROT_WRITE: i32 = 2;
+const PROT_EXEC: i32 = 4;
+const MAP_PRIVATE: i32 = 2;
+const MAP_ANONYMOUS: i32 = 0x20;
+extern "C" {
+    fn mmap(
+        at: *mut u8,
+        length: usize,
+        protection: i32,
+        flags: i32,
+        file: i32,
+        offset: i64,
+    ) -> *mut u8;
+    fn mprotect(at: *mut u8, length: usize, protection: i32) -> i32;
+}
+
+/// 1: is the IPv4 address a subscriber's? Here, the addresses whose last byte
+/// is a multiple of 7.
+extern "sysv64" fn is_subscribed(address: u64) -> u64 {
+    ((address & 0xff) % 7 == 0) as u64
+}
+
+/// 2: five numbers mixed into 32 bits.
+extern "sysv64" fn mix(a: u64, b: u64, c: u64, d: u64, e: u64) -> u64 {
+    let sum = [b, c, d, e].iter().fold(a, |sum, next| sum.wrapping_mul(31).wrapping_add(*next));
+    (sum >> 32) ^ (sum & 0xffff_ffff)
+}
+
+// The page enters a helper with the stack 8 bytes off what the calling
+// convention says, so each is entered by way of a few instructions that align
+// it.
+macro_rules! aligned {
+    ($entry:literal, $helper:path) => {
+        std::arch::global_asm!(
+            concat!($entry, ":"),
+            "push rbp",
+            "mov rbp, rsp",
+            "and rsp, -16",
+            "call {helper}",
+            "leave",
+            "ret",
+            helper = sym $helper,
+        );
+    };
+}
+aligned!("is_subscribed_aligned", is_subscribed);
+aligned!("mix_aligned", mix);
+extern "C" {
+    fn is_subscribed_aligned();
+    fn mix_aligned();
+}
+
+/// The code in a mapping of its own, executable and no longer writable.
+fn mapped(code: &[u8]) -> Outcome<Page> {
+    unsafe {
+        let anywhere = MAP_PRIVATE | MAP_ANONYMOUS;
+        let at = mmap(ptr::null_mut(), code.len(), PROT_READ | PROT_WRITE, anywhere, -1, 0);
+        if at as isize == -1 {
+            return Err("the page cannot be mapped".into());
+        }
+        ptr::copy_nonoverlapping(code.as_ptr(), at, code.len());
+        if mprotect(at, code.len(), PROT_READ | PROT_EXEC) != 0 {
+            return Err("the page cannot be made executable".into());
+        }
+        Ok(std::mem::transmute::<*mut u8, Page>(at))
+    }
+}
+
+fn load(name: &str, raw: bool) -> Outcome<Page> {
+    let program = read(name)?;
+    let mut code = vec![0; CODE_ENOUGH];
+    let [mut locations, mut fields, mut targets] = [0, 1, 2].map(|_| vec![0; TABLE_ENOUGH]);
+    let tables = Tables { locations: &mut locations, fields: &mut fields, targets: &mut targets };
+    let flags = Flags { use_mbuff: !raw, update_data_ptr: false };
+    let addresses = [is_subscribed_aligned as *const () as u64, mix_aligned as *const () as u64];
+    let helpers = Helpers { ids: &[1, 2], addresses: &addresses };
+    let done = translate(&program, flags, helpers, &mut code, tables);
+    let done = done.map_err(|refusal| format!("{name} is refused: {refusal}"))?;
+    println!("{name}: {} slots, {} bytes of code", program.len() / 8, done.length);
+    mapped(&code[..done.length])
+}
+
+fn keeps(page: Page, raw: bool, data: &[u8]) -> bool {
+    let mut buffer = data.to_vec();
+    buffer.resize(data.len() + RAW_LEAST, 0);
+    let start = buffer.as_mut_ptr();
+    let mut packet = Packet { data: start, data_end: unsafe { start.add(data.len()) } };
+    let (mbuff, length) =
+        if raw { (ptr::null_mut(), 0) } else { (&mut packet as *mut Packet, size_of::<Packet>()) };
+    unsafe { page(mbuff, length, start, data.len(), 0, 0) != 0 }
+}
+
+fn read(name: &str) -> Outcome<Vec<u8>> {
+    Ok(std::fs::read(name).map_err(|error| format!("{name} cannot be read: {error}"))?)
+}
+
+fn number_at(bytes: &[u8], at: usize, swapped: bool) -> usize {
+    let number = u32::from_le_bytes([bytes[at], bytes[at + 1], bytes[at + 2], bytes[at + 3]]);
+    (if swapped { number.swap_bytes() } else { number }) as usize
+}
+
+/// The packets of a pcap, in either byte order.
+fn packets(pcap: &[u8]) -> Outcome<Vec<&[u8]>> {
+    let magic = if pcap.len() < FILE_HEADER { 0 } else { number_at(pcap, 0, false) };
+    let swapped = match magic {
+        0xa1b2_c3d4 | 0xa1b2_3c4d => false,
+        0xd4c3_b2a1 | 0x4d3c_b2a1 => true,
+        _ => return Err("it is no pcap".into()),
+    };
+    let (mut rest, mut found) = (&pcap[FILE_HEADER..], Vec::new());
+    while !rest.is_empty() {
+        let inside = "it ends inside a packet";
+        if rest.len() < PACKET_HEADER {
+            return Err(inside.into());
+        }
+        let length = number_at(rest, 8, swapped);
+        rest = &rest[PACKET_HEADER..];
+        found.push(rest.get(..length).ok_or(inside)?);
+        rest = &rest[length..];
+    }
+    Ok(found)
+}
+
+/// A pcap's packets are numbered from 1, as tcpdump and tshark number them.
+fn run(page: Page, raw: bool, name: &str) -> Outcome<()> {
+    let pcap = read(name)?;
+    let packets = packets(&pcap).map_err(|why| format!("{name}: {why}"))?;
+    let (mut kept, mut bytes) = (0, 0);
+    println!("packet  length  verdict");
+    for (at, packet) in packets.iter().enumerate() {
+        let keep = keeps(page, raw, packet);
+        kept += keep as usize;
+        bytes += if keep { packet.len() } else { 0 };
+        println!("{:6}  {:6}  {}", at + 1, packet.len(), if keep { "kept" } else { "-" });
+    }
+    println!("kept {kept} of {} packets, {bytes} bytes", packets.len());
+    Ok(())
+}
+
+fn main() -> ExitCode {
+    let words: Vec<String> = std::env::args().skip(1).collect();
+    let words: Vec<&str> = words.iter().map(String::as_str).collect();
+    let (raw, filter, pcap) = match words[..] {
+        ["--raw", filter, pcap] => (true, filter, pcap),
+        [filter, pcap] => (false, filter, pcap),
+        _ => {
+            eprintln!("usage: loader [--raw] FILTER PCAP");
+            return 2.into();
+        }
+    };
+    match load(filter, raw).and_then(|page| run(page, raw, pcap)) {
+        Ok(()) => 0.into(),
+        Err(sentence) => {
+            eprintln!("loader: {sentence}");
+            1.into()
+        }
+    }
+}

@@ -1,0 +1,94 @@
+/* Ndakoleem for C: turns an eBPF filter into the x86-64 page that decides which packets are kept.
+ *
+ * Link with libndakoleem.a, which `rt staticlib ndakoleem` writes to target/staticlib. The library is x86-64 code, allocates nothing, keeps
+ * nothing between calls, calls nothing of the operating system, and can be called by several threads at once, each with its own buffers.
+ *
+ * Mapping the page executable stays with the caller: give the code buffer's first `length` bytes to a mapping, then make that one readable
+ * and executable. The code is called as `uint64_t f(uint8_t *mbuff, size_t mbuff_length, uint8_t *packet, size_t packet_length,
+ * size_t packet_start_offset, size_t packet_end_offset)`, as rbpf calls it; with use_mbuff false only the packet's pointer is looked at. */
+#ifndef NDAKOLEEM_H
+#define NDAKOLEEM_H
+
+#include <stdbool.h>
+#include <stddef.h>
+#include <stdint.h>
+
+#ifdef __cplusplus
+extern "C" {
+#endif
+
+/* Sizes. With these any program of up to NDAKOLEEM_PROGRAM_MAX bytes finds room; smaller buffers do for smaller programs. A program of n slots
+ * (its length in bytes divided by 8, rounded down) takes at most 42 * n + 65 bytes of code, n + 1 locations and n + 1 jumps. */
+enum {
+    NDAKOLEEM_PROGRAM_MAX = 16384,  /* bytes: 2,048 slots */
+    NDAKOLEEM_CODE_MIN = 4096,      /* bytes: a shorter code buffer is refused, whatever the program */
+    NDAKOLEEM_CODE_MAX = 131072,    /* bytes: a longer one is refused */
+    NDAKOLEEM_CODE_ENOUGH = 90112,  /* bytes, a multiple of 4,096: no program's code is longer than 86,081 */
+    NDAKOLEEM_TABLE_ENOUGH = 2049,  /* entries: as many as the longest program needs */
+    NDAKOLEEM_HELPERS_MAX = 256,    /* helpers */
+    NDAKOLEEM_SENTENCE_ENOUGH = 200 /* bytes: every sentence of ndakoleem_sentence finds room */
+};
+
+/* An answer's number: 0, or why the program is refused. The slot that goes with it is said in brackets; slots count from 0. */
+enum ndakoleem_number {
+    NDAKOLEEM_ACCEPTED = 0,          /* the code is finished                                                                              [0] */
+    NDAKOLEEM_CODE_TOO_SHORT = 1,    /* the code buffer is below 4,096 bytes                                                              [0] */
+    NDAKOLEEM_CODE_TOO_LONG = 2,     /* the code buffer is above 131,072 bytes                                                            [0] */
+    NDAKOLEEM_PROGRAM_TOO_LONG = 3,  /* the program is above 16,384 bytes                                                                 [0] */
+    NDAKOLEEM_TABLE_TOO_SHORT = 4,   /* a table has fewer entries than the program has slots, and one                                     [0] */
+    NDAKOLEEM_BAD_HELPERS = 5,       /* the helper lists differ in length, have more than 256 entries, or hold an id twice                [0] */
+    NDAKOLEEM_TORN_SLOT = 6,         /* a slot's eight bytes, or a wide load's second eight, are not all there      [that slot; a load's first] */
+    NDAKOLEEM_BAD_REGISTER = 7,      /* a slot names a register above 10                                                          [that slot] */
+    NDAKOLEEM_UNKNOWN_OPCODE = 8,    /* a slot's opcode byte is none that is known                                                [that slot] */
+    NDAKOLEEM_UNIMPLEMENTED = 9,     /* a 32- or 64-bit atomic add, or a tail call: known, but not translated                     [that slot] */
+    NDAKOLEEM_BAD_SWAP = 10,         /* a byte swap to big-endian of a width other than 16, 32 or 64 bits                         [that slot] */
+    NDAKOLEEM_UNKNOWN_HELPER = 11,   /* a call of a helper whose id is not in the list                                            [that slot] */
+    NDAKOLEEM_BAD_CALL = 12,         /* a call that is neither to a helper nor local (src 2 to 10)                                [that slot] */
+    NDAKOLEEM_NO_ROOM = 13,          /* the code runs past the code buffer                  [the slot whose code does, or n for the epilogue] */
+    NDAKOLEEM_BAD_TARGET = 14        /* a jump or a local call goes to no slot of the program                    [the first such jump's slot] */
+};
+
+/* Accepted: number and slot are 0, length is how many bytes of code there are, jumps how many entries each of the two jump tables has.
+ * Refused: number and slot say why and where; length and jumps are 0. */
+struct ndakoleem_translation {
+    uint8_t number;
+    size_t slot;
+    size_t length;
+    size_t jumps;
+};
+
+/* Translates a program. Every argument gets an answer; nothing need be checked beforehand but that each pointer is good for its length (in
+ * elements) and that no buffer that is written overlaps another. A pointer may not be null, even where its length is 0.
+ *
+ *   program              the filter's bytecode
+ *   use_mbuff            the filter gets a metadata buffer (mbuff) in r1, and not the packet itself
+ *   update_data_ptr      with use_mbuff: the packet's start and end are stored in the mbuff, at the two offsets that the call gives
+ *   ids, addresses       the helpers that the program may call: a number and a function for each, side by side, no number twice
+ *   code                 accepted: its first `length` bytes become the code
+ *   locations            accepted: entries 0 to n become the position of each slot's code (0 for a wide load's second slot, and for entry n)
+ *   fields, targets      accepted: their first `jumps` entries become the position of each jump's four-byte field, and the slot that it goes to
+ *                        (1,000,001 for the exit)
+ *
+ * Everything behind these is left as it was; a refusal changes nothing at all. */
+struct ndakoleem_translation ndakoleem_translate(
+    const uint8_t *program, size_t program_length,
+    bool use_mbuff, bool update_data_ptr,
+    const uint32_t *ids, size_t ids_length,
+    const uint64_t *addresses, size_t addresses_length,
+    uint8_t *code, size_t code_length,
+    uint32_t *locations, size_t locations_length,
+    uint32_t *fields, size_t fields_length,
+    uint32_t *targets, size_t targets_length);
+
+/* A refusal in words, for an operator: "slot 7: a jump to slot 90, the program ends at 40 (refusal 14)". The program, and the answer's number and
+ * slot, go in; the sentence goes to the start of `out`, cut where it does not fit and not ended by a zero, and its length is given back. */
+size_t ndakoleem_sentence(
+    const uint8_t *program, size_t program_length,
+    uint8_t number, size_t slot,
+    char *out, size_t out_length);
+
+#ifdef __cplusplus
+}
+#endif
+
+#endif

@@ -1,0 +1,118 @@
+//! Ndakoleem for Rust: turns an eBPF filter into the x86-64 page that decides
+//! which packets are kept.
+//!
+//! `translate` is one call of the static library `libndakoleem.a`, which is
+//! proved; this crate adds Rust's types to it and nothing else. Every program
+//! and every set of buffers gets an answer, and a refusal changes no byte.
+//!
+//! ```
+//! use ndakoleem::{translate, Flags, Helpers, Tables};
+//!
+//! let exit = [0x95, 0, 0, 0, 0, 0, 0, 0];
+//! let mut code = [0; 4096];
+//! let (mut locations, mut fields, mut targets) = ([0; 2], [0; 2], [0; 2]);
+//! let tables = Tables { locations: &mut locations, fields: &mut fields, targets: &mut targets };
+//! match translate(&exit, Flags::default(), Helpers::default(), &mut code, tables) {
+//!     Ok(page) => assert_eq!(code[..page.length].len(), 51),
+//!     Err(refusal) => panic!("{refusal}"),
+//! }
+//! ```
+
+#![no_std]
+
+pub mod raw;
+mod refusal;
+#[cfg(test)]
+mod tests;
+
+pub use refusal::{Reason, Refusal};
+
+/// The longest program in bytes: 2,048 slots.
+pub const PROGRAM_MAX: usize = 16_384;
+/// A code buffer has at least so many bytes, and at most `CODE_MAX`.
+pub const CODE_MIN: usize = 4_096;
+pub const CODE_MAX: usize = 131_072;
+/// Bytes in which every program's code finds room: a multiple of 4,096, and
+/// no code is longer than 86,081.
+pub const CODE_ENOUGH: usize = 90_112;
+/// Entries that do for every program in each table.
+pub const TABLE_ENOUGH: usize = PROGRAM_MAX / 8 + 1;
+
+/// Which registers the filter finds filled.
+#[derive(Clone, Copy, Debug, Default, PartialEq, Eq)]
+pub struct Flags {
+    /// r1 is a metadata buffer (mbuff), and not the packet.
+    pub use_mbuff: bool,
+    /// With `use_mbuff`: the packet's start and end are stored in the mbuff,
+    /// at the two offsets that the page's caller gives.
+    pub update_data_ptr: bool,
+}
+
+/// The helpers that the filter may call: a number and an address for each,
+/// side by side.
+#[derive(Clone, Copy, Debug, Default)]
+pub struct Helpers<'a> {
+    pub ids: &'a [u32],
+    pub addresses: &'a [u64],
+}
+
+/// The tables that a translation fills: each has at least one entry more than
+/// the program has slots.
+#[derive(Debug)]
+pub struct Tables<'a> {
+    /// The position of each slot's code; 0 for a wide load's second slot and
+    /// for the entry behind the last slot.
+    pub locations: &'a mut [u32],
+    /// The position of each jump's four-byte field, the prologue's first.
+    pub fields: &'a mut [u32],
+    /// The slot that each jump goes to; 1,000,001 for the exit.
+    pub targets: &'a mut [u32],
+}
+
+/// How much of the buffers a translation has filled.
+#[derive(Clone, Copy, Debug, PartialEq, Eq)]
+pub struct Accepted {
+    /// Bytes of code.
+    pub length: usize,
+    /// Entries of the tables `fields` and `targets`.
+    pub jumps: usize,
+}
+
+/// Translates a program: the code is at the head of `code`, what is known of
+/// it at the head of `tables`, and everything behind is as it was. Refused,
+/// everything is as it was.
+pub fn translate(
+    program: &[u8],
+    flags: Flags,
+    helpers: Helpers,
+    code: &mut [u8],
+    tables: Tables,
+) -> Result<Accepted, Refusal> {
+    let Tables { locations, fields, targets } = tables;
+    // Each pointer is a slice's, good for its length; what is written is lent
+    // by `&mut`, so nothing overlaps it.
+    let answer = unsafe {
+        raw::ndakoleem_translate(
+            program.as_ptr(),
+            program.len(),
+            flags.use_mbuff,
+            flags.update_data_ptr,
+            helpers.ids.as_ptr(),
+            helpers.ids.len(),
+            helpers.addresses.as_ptr(),
+            helpers.addresses.len(),
+            code.as_mut_ptr(),
+            code.len(),
+            locations.as_mut_ptr(),
+            locations.len(),
+            fields.as_mut_ptr(),
+            fields.len(),
+            targets.as_mut_ptr(),
+            targets.len(),
+        )
+    };
+    match Reason::of(answer.number) {
+        None => Ok(Accepted { length: answer.length, jumps: answer.jumps }),
+        Some(reason) => Err(Refusal::new(reason, answer.slot, program)),
+    }
+}

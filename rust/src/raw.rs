@@ -1,0 +1,49 @@
+//! The static library's functions as C sees them. `include/ndakoleem.h`
+//! explains each argument; `crate::translate` calls them safely.
+
+/// The four numbers of an answer, laid out as C's `struct ndakoleem_translation`.
+#[repr(C)]
+#[derive(Clone, Copy, Debug, PartialEq, Eq)]
+pub struct Translation {
+    pub number: u8,
+    pub slot: usize,
+    pub length: usize,
+    pub jumps: usize,
+}
+
+/// Bytes in which every sentence finds room.
+pub const SENTENCE_ENOUGH: usize = 200;
+
+#[link(name = "ndakoleem", kind = "static")]
+extern "C" {
+    /// Every slice is a pointer and its length in elements; none of the memory
+    /// may overlap what is lent to be changed.
+    pub fn ndakoleem_translate(
+        program: *const u8,
+        program_length: usize,
+        use_mbuff: bool,
+        update_data_ptr: bool,
+        ids: *const u32,
+        ids_length: usize,
+        addresses: *const u64,
+        addresses_length: usize,
+        code: *mut u8,
+        code_length: usize,
+        locations: *mut u32,
+        locations_length: usize,
+        fields: *mut u32,
+        fields_length: usize,
+        targets: *mut u32,
+        targets_length: usize,
+    ) -> Translation;
+
+    /// A refusal in words; the answer is the sentence's length.
+    pub fn ndakoleem_sentence(
+        program: *const u8,
+        program_length: usize,
+        number: u8,
+        slot: usize,
+        out: *mut u8,
+        out_length: usize,
+    ) -> usize;
+}

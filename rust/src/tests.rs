@@ -1,0 +1,131 @@
+//! That the crate hands on what it is given and gives back what it is told:
+//! document 01's EXIT, each buffer behind it, flags, helpers, and refusals in
+//! words. What the library itself answers is proved, and tested elsewhere.
+
+extern crate std;
+use std::format;
+use std::vec;
+use std::vec::Vec;
+
+use crate::{translate, Accepted, Flags, Helpers, Reason, Refusal, Tables};
+
+const EXIT: [u8; 8] = [0x95, 0, 0, 0, 0, 0, 0, 0];
+const EXIT_CODE: [u8; 51] = [
+    0x55, 0x53, 0x41, 0x55, 0x41, 0x56, 0x41, 0x57, 0x49, 0x89, 0xd2, 0x48, 0x89, 0xd7, 0x48, 0x89,
+    0xe5, 0x48, 0x81, 0xec, 0x00, 0x02, 0x00, 0x00, 0xe8, 0x05, 0x00, 0x00, 0x00, 0xe9, 0x01, 0x00,
+    0x00, 0x00, 0xc3, 0x48, 0x81, 0xc4, 0x00, 0x02, 0x00, 0x00, 0x41, 0x5f, 0x41, 0x5e, 0x41, 0x5d,
+    0x5b, 0x5d, 0xc3,
+];
+const MARK: u32 = 0xabab_abab;
+
+/// Everything that a call is lent, marked beforehand.
+struct Lent {
+    code: Vec<u8>,
+    tables: [Vec<u32>; 3],
+}
+
+impl Lent {
+    fn new(code: usize, entries: usize) -> Lent {
+        Lent { code: vec![0xab; code], tables: [0, 1, 2].map(|_| vec![MARK; entries]) }
+    }
+
+    fn translate(
+        &mut self,
+        program: &[u8],
+        flags: Flags,
+        helpers: Helpers,
+    ) -> Result<Accepted, Refusal> {
+        let [locations, fields, targets] = &mut self.tables;
+        translate(program, flags, helpers, &mut self.code, Tables { locations, fields, targets })
+    }
+
+    fn untouched(&self) -> bool {
+        let tables = self.tables.iter().flatten();
+        self.code.iter().all(|byte| *byte == 0xab) && tables.copied().all(|entry| entry == MARK)
+    }
+}
+
+fn refused(program: &[u8]) -> Refusal {
+    let mut lent = Lent::new(4_096, 64);
+    let refusal =
+        lent.translate(program, Flags::default(), Helpers::default()).expect_err("refused");
+    assert!(lent.untouched());
+    refusal
+}
+
+#[test]
+fn exit_alone_and_what_is_behind_it() {
+    let mut lent = Lent::new(4_096, 4);
+    let accepted = lent.translate(&EXIT, Flags::default(), Helpers::default());
+    assert_eq!(accepted, Ok(Accepted { length: 51, jumps: 1 }));
+    assert_eq!(lent.code[..51], EXIT_CODE);
+    assert!(lent.code[51..].iter().all(|byte| *byte == 0xab));
+    assert_eq!(lent.tables[0], [34, 0, MARK, MARK]);
+    assert_eq!(lent.tables[1], [30, MARK, MARK, MARK]);
+    assert_eq!(lent.tables[2], [1_000_001, MARK, MARK, MARK]);
+}
+
+#[test]
+fn each_flag_reaches_the_library() {
+    let length = |use_mbuff, update_data_ptr| {
+        let flags = Flags { use_mbuff, update_data_ptr };
+        Lent::new(4_096, 2).translate(&EXIT, flags, Helpers::default()).expect("accepted").length
+    };
+    // The prologue is 34, 34, 31 or 49 bytes; EXIT and the epilogue are 17.
+    let lengths =
+        [length(false, false), length(false, true), length(true, false), length(true, true)];
+    assert_eq!(lengths, [51, 51, 48, 66]);
+}
+
+#[test]
+fn a_listed_helper_is_called() {
+    let call = [0x85, 0, 0, 0, 7, 0, 0, 0];
+    let helpers = Helpers { ids: &[6, 7], addresses: &[1, 0x1122_3344_5566_7788] };
+    let mut lent = Lent::new(4_096, 2);
+    let accepted = lent.translate(&call, Flags::default(), helpers).expect("accepted");
+    let code = &lent.code[..accepted.length];
+    assert!(code.windows(8).any(|bytes| bytes == 0x1122_3344_5566_7788u64.to_le_bytes()));
+}
+
+#[test]
+fn buffers_keep_their_own_lengths() {
+    let reason = |code, entries: [usize; 3]| {
+        let mut lent = Lent::new(code, 0);
+        lent.tables = entries.map(|length| vec![MARK; length]);
+        let refusal =
+            lent.translate(&EXIT, Flags::default(), Helpers::default()).expect_err("refused");
+        refusal.reason
+    };
+    assert_eq!(reason(4_095, [2, 2, 2]), Reason::CodeTooShort);
+    assert_eq!(reason(131_073, [2, 2, 2]), Reason::CodeTooLong);
+    for short in [[1, 2, 2], [2, 1, 2], [2, 2, 1]] {
+        assert_eq!(reason(4_096, short), Reason::TableTooShort);
+    }
+}
+
+#[test]
+fn a_bad_jump_in_words() {
+    let mut program = EXIT.repeat(40);
+    program[56..64].copy_from_slice(&[0x05, 0, 82, 0, 0, 0, 0, 0]);
+    let refusal = refused(&program);
+    assert_eq!((refusal.reason, refusal.slot), (Reason::BadTarget, 7));
+    assert_eq!(
+        format!("{refusal}"),
+        "slot 7: a jump to slot 90, the program ends at 40 (refusal 14)"
+    );
+}
+
+#[test]
+fn an_unknown_opcode_in_words() {
+    let refusal = refused(&[EXIT, [0x06, 0, 0, 0, 0, 0, 0, 0]].concat());
+    assert_eq!((refusal.reason.number(), refusal.slot), (8, 1));
+    assert_eq!(format!("{refusal}"), "slot 1: unknown opcode 0x06 (refusal 8)");
+}
+
+#[test]
+fn every_number_is_its_reason() {
+    for number in 1..=14 {
+        assert_eq!(Reason::of(number).map(Reason::number), Some(number));
+    }
+    assert_eq!(Reason::of(0), None);
+}
