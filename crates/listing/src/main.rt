@@ -10,6 +10,7 @@ use libc::STDIN_FILENO;
 use libc::STDOUT_FILENO;
 use options::LARGEST;
 use options::Options;
+use table::LINE;
 use table::Totals;
 use translator::translate::Answer;
 use translator::translate::translate;
@@ -18,8 +19,6 @@ use translator::translate::translate;
 const INPUT: usize = 16385;
 // An entry for each slot that the input can hold, and one.
 const TABLE: usize = 2049;
-// No line is longer.
-const LINE: usize = 240;
 
 const EPILOGUE: usize = 16;
 
@@ -39,19 +38,20 @@ fn explain() {
 }
 
 // Refusals below 6 are of no slot.
-fn list_until(line: &mut [u8], prog: &[u8], number: u8, slot: usize) {
+fn list_until(prog: &[u8], number: u8, slot: usize) {
     if number < 6 {
         return;
     }
-    table::list_slots(line, prog, slot);
+    table::list_slots(prog, slot);
 }
 
-fn refuse(line: &mut [u8], prog: &[u8], refusal: Refusal) {
+fn refuse(prog: &[u8], refusal: Refusal) {
+    let mut line = [0u8; LINE];
     let number = refusals::number_of(refusal);
     let slot = refusals::slot_of(refusal);
-    list_until(line, prog, number, slot);
-    let end = words::sentence::sentence(prog, number, slot, line);
-    table::finish(line, end);
+    list_until(prog, number, slot);
+    let end = words::sentence::sentence(prog, number, slot, &mut line);
+    table::finish(&mut line, end);
 }
 
 fn exit_of(length: usize) -> usize {
@@ -66,7 +66,6 @@ fn answer(program: &[u8], flags: Flags, page: &mut [u8], size: usize) {
     if page.len() < size {
         return;
     }
-    let mut line = [0u8; LINE];
     let mut locations = [0u32; TABLE];
     let mut fields = [0u32; TABLE];
     let mut targets = [0u32; TABLE];
@@ -82,7 +81,7 @@ fn answer(program: &[u8], flags: Flags, page: &mut [u8], size: usize) {
         &mut fields,
         &mut targets,
     ) {
-        Answer::Refused(refusal) => refuse(&mut line, program, refusal),
+        Answer::Refused(refusal) => refuse(program, refusal),
         Answer::Accepted { length, jumps } => {
             let totals = Totals {
                 slots: program.len() / 8,
@@ -91,15 +90,7 @@ fn answer(program: &[u8], flags: Flags, page: &mut [u8], size: usize) {
                 page: size,
                 exit: exit_of(length),
             };
-            table::list_page(
-                &mut line,
-                program,
-                page,
-                &locations,
-                &fields,
-                &targets,
-                totals,
-            );
+            table::list_page(program, page, &locations, &fields, &targets, totals);
         }
     }
 }

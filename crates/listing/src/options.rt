@@ -30,16 +30,22 @@ fn complain(what: &[u8], word: &[u8]) {
     io::write_all(STDERR_FILENO, b" (--help lists what is known)\n");
 }
 
-// One digit more; what is above the largest page stays there.
+// What is above the largest page stays there.
+fn clamped(n: usize) -> usize
+    ensures { λ r. ⌜ r ≤ 131073 ⌝ }
+{
+    if n < LARGEST {
+        return n;
+    }
+    LARGEST
+}
+
+// One digit more.
 fn grown(n: usize, digit: u8) -> usize
     requires { ⌜ n ≤ 131073 ⌝ }
     ensures { λ r. ⌜ r ≤ 131073 ⌝ }
 {
-    let more = 10 * n + digit as usize;
-    if more < LARGEST {
-        return more;
-    }
-    LARGEST
+    clamped(10 * n + digit as usize)
 }
 
 fn number_of(word: &[u8]) -> Number {
@@ -62,12 +68,15 @@ fn number_of(word: &[u8]) -> Number {
     Number::Is(n)
 }
 
-fn with_page(options: Options, word: &[u8]) -> Options {
+fn with_page(options: Options, word: &[u8]) -> Options
+    requires { ⌜ options .page ≤ 131073 ⌝ }
+    ensures { λ r. ⌜ r .page ≤ 131073 ⌝ }
+{
     let mut changed = options;
     changed.page_next = false;
     match number_of(word) {
         Number::Is(n) => {
-            changed.page = n;
+            changed.page = clamped(n);
         }
         Number::No => {
             complain(b"the page size is not a number: ", word);
@@ -77,7 +86,10 @@ fn with_page(options: Options, word: &[u8]) -> Options {
     changed
 }
 
-fn with_word(options: Options, word: &[u8]) -> Options {
+fn with_word(options: Options, word: &[u8]) -> Options
+    requires { ⌜ options .page ≤ 131073 ⌝ }
+    ensures { λ r. ⌜ r .page ≤ 131073 ⌝ }
+{
     if options.page_next {
         return with_page(options, word);
     }
@@ -103,7 +115,10 @@ fn with_word(options: Options, word: &[u8]) -> Options {
     changed
 }
 
-fn complete(options: Options) -> Options {
+fn complete(options: Options) -> Options
+    requires { ⌜ options .page ≤ 131073 ⌝ }
+    ensures { λ r. ⌜ r .page ≤ 131073 ⌝ }
+{
     let mut changed = options;
     if options.page_next {
         complain(b"the page size is missing behind ", b"--page");
@@ -112,8 +127,11 @@ fn complete(options: Options) -> Options {
     changed
 }
 
-// The argument's own word is cut at 64 bytes, which no known word reaches.
-pub fn read_options() -> Options {
+// What the arguments say is the operating system's; the page is one that there is room for. An argument's word is cut at 64 bytes, which no
+// known word reaches.
+pub fn read_options() -> Options
+    ensures { λ r. ⌜ r .page ≤ 131073 ⌝ }
+{
     let count = os::arg_count();
     let mut options = Options {
         use_mbuff: false,

@@ -1,4 +1,9 @@
 // The lines of the listing: a slot, what became of it, and where it jumps. Positions are offsets in the page, in hexadecimal.
+ghost use mathlib.Core.Path.{_≡_};
+ghost use mathlib.Core.List.{[], _∷_};
+ghost use Prim.Native.Nat.{_+_, _/_, min};
+ghost use lib.ListN.{length};
+ghost use Rattle.words.specs.Text.{Says};
 use assembler::put_slot;
 use intel::text::put_instruction;
 use libc::STDOUT_FILENO;
@@ -10,6 +15,9 @@ use words::number::put_hex_byte;
 use words::text::put_byte;
 use words::text::put_padding;
 use words::text::put_text;
+
+// No line is longer.
+pub const LINE: usize = 240;
 
 // The columns of a slot's line and of an instruction's.
 const AT: usize = 11;
@@ -35,12 +43,15 @@ pub struct Totals {
     pub exit: usize,
 }
 
-// The line is over: it is written out.
-pub fn finish(line: &mut [u8], at: usize) {
+// The line is over: its newline is put, and it is written out.
+pub fn finish(line: &mut [u8], at: usize) -> usize
+    ensures { λ r. ⌜ Says (now (line .entry)) (now (line .exit)) at r (10 ∷ []) ⌝ }
+{
     let end = put_byte(line, at, b'\n');
     if end <= line.len() {
         io::write_all(STDOUT_FILENO, &line[..end]);
     }
+    end
 }
 
 fn wide(x: u32) -> usize {
@@ -246,13 +257,16 @@ fn list_all_slots(
     fields: &[u32],
     targets: &[u32],
     totals: Totals,
-) {
+) -> usize
+    ensures { λ r. ⌜ r ≡ totals .slots ⌝ }
+{
     let slots = totals.slots;
     let mut slot = 0;
     while slot < slots {
         list_slot(line, prog, code, locations, fields, targets, totals, slot);
         slot += 1;
     }
+    slot
 }
 
 fn first_location(locations: &[u32], totals: Totals) -> usize {
@@ -262,22 +276,25 @@ fn first_location(locations: &[u32], totals: Totals) -> usize {
     entry(locations, 0)
 }
 
-// The whole page of an accepted program.
+// The whole page of an accepted program; the answer is how many slots are listed.
 pub fn list_page(
-    line: &mut [u8],
     prog: &[u8],
     code: &[u8],
     locations: &[u32],
     fields: &[u32],
     targets: &[u32],
     totals: Totals,
-) {
+) -> usize
+    ensures { λ r. ⌜ r ≡ totals .slots ⌝ }
+{
+    let mut line = [0u8; LINE];
     let exit = totals.exit;
     let first = first_location(locations, totals);
-    list_frame(line, b"prologue", code, 0, first);
-    list_all_slots(line, prog, code, locations, fields, targets, totals);
-    list_frame(line, b"epilogue", code, exit, totals.length);
-    list_totals(line, totals);
+    list_frame(&mut line, b"prologue", code, 0, first);
+    let listed = list_all_slots(&mut line, prog, code, locations, fields, targets, totals);
+    list_frame(&mut line, b"epilogue", code, exit, totals.length);
+    list_totals(&mut line, totals);
+    listed
 }
 
 fn list_bytecode(line: &mut [u8], prog: &[u8], slot: usize) {
@@ -287,15 +304,19 @@ fn list_bytecode(line: &mut [u8], prog: &[u8], slot: usize) {
     finish(line, next);
 }
 
-// The slots of a refused program, up to the one that is refused; nothing became of them.
-pub fn list_slots(line: &mut [u8], prog: &[u8], until: usize) {
+// The slots of a refused program, up to the one that is refused; nothing became of them. The answer is how many are listed.
+pub fn list_slots(prog: &[u8], until: usize) -> usize
+    ensures { λ r. ⌜ r ≡ min (until + 1) (length (now (prog .entry)) / 8) ⌝ }
+{
+    let mut line = [0u8; LINE];
     let slots = prog.len() / 8;
     let mut slot = 0;
     while slot < slots {
         if until < slot {
-            return;
+            return slot;
         }
-        list_bytecode(line, prog, slot);
+        list_bytecode(&mut line, prog, slot);
         slot += 1;
     }
+    slot
 }

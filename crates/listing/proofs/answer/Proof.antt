@@ -34,9 +34,6 @@ translate-requires c κs = search needs
 enum-known-refusal : tie.Need-enum-known-refusal
 enum-known-refusal c = search needs
 
-slice-aggregate-refuse : tie.Need-slice-aggregate-refuse
-slice-aggregate-refuse c = search needs
-
 refuse-requires : tie.Need-refuse-requires
 refuse-requires c κs = search needs
 
@@ -54,9 +51,6 @@ slice-aggregate-list-page-2 c = search needs
 
 slice-aggregate-list-page-3 : tie.Need-slice-aggregate-list-page-3
 slice-aggregate-list-page-3 c = search needs
-
-slice-aggregate-list-page-4 : tie.Need-slice-aggregate-list-page-4
-slice-aggregate-list-page-4 c = search needs
 
 list-page-requires : tie.Need-list-page-requires
 list-page-requires c κs = search needs
@@ -87,14 +81,12 @@ answer-spec =
     slice-aggregate-translate-6
     translate-requires
     enum-known-refusal
-    slice-aggregate-refuse
     refuse-requires
     enum-known-length
     exit-of-requires
     slice-aggregate-list-page
     slice-aggregate-list-page-2
     slice-aggregate-list-page-3
-    slice-aggregate-list-page-4
     list-page-requires
     same-length
     returns-2

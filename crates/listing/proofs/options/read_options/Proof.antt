@@ -1,10 +1,10 @@
-use Prim.Native.Nat.{_≤_, _-_}
 use borrow.Author.Needs.{needs}
+use Prim.Native.Nat.{_≤_, _-_}
 use Rattle.listing.proofs.options.read_options.Statement.{statement}
 use Rattle.listing.proofs.options.read_options.Tie as tie
 
 abbrev Inv-loop : tie.InvT-loop
-Inv-loop count options₀ i₀ options i = 1 ≤ i
+Inv-loop count options₀ i₀ options i = (1 ≤ i) × (options .page ≤ 131073)
 
 abbrev μ-loop : tie.MeasureT-loop
 μ-loop count options₀ i₀ options i = count - i

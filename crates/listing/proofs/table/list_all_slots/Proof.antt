@@ -1,12 +1,13 @@
-use Prim.Native.Nat.{_-_}
-use mathlib.Core.Path.{_≡_}
-use lib.ListN.{length}
 use borrow.Author.Needs.{needs}
+use lib.ListN.{length}
+use native.Mathlib.Omega.{arith}
+use mathlib.Core.Path.{_≡_}
+use Prim.Native.Nat.{_-_, _≤_}
 use Rattle.listing.proofs.table.list_all_slots.Statement.{statement}
 use Rattle.listing.proofs.table.list_all_slots.Tie as tie
 
 abbrev Inv-loop : tie.InvT-loop
-Inv-loop line₀ prog code locations fields targets totals slots slot₀ line slot = length line ≡ length line₀
+Inv-loop line₀ prog code locations fields targets totals slots slot₀ line slot = (length line ≡ length line₀) × (slot ≤ slots)
 
 abbrev μ-loop : tie.MeasureT-loop
 μ-loop line₀ prog code locations fields targets totals slots slot₀ line slot = slots - slot

@@ -1,24 +1,25 @@
-use Prim.Native.Nat.{_-_}
-use mathlib.Core.Path.{_≡_}
-use lib.ListN.{length}
 use borrow.Author.Needs.{needs}
+use lib.ListN.{length}
+use native.Mathlib.Omega.{arith}
+use mathlib.Core.Path.{_≡_, sym}
+use Prim.Native.Nat.{_+_, _-_, _≤_}
 use Rattle.listing.proofs.table.list_slots.Statement.{statement}
 use Rattle.listing.proofs.table.list_slots.Tie as tie
 
 abbrev Inv-loop : tie.InvT-loop
-Inv-loop line₀ prog until slots slot₀ line slot = length line ≡ length line₀
+Inv-loop prog until line₀ slots slot₀ line slot = (slot ≤ slots) × ((slot ≤ until + 1) × (length line ≡ 240))
 
 abbrev μ-loop : tie.MeasureT-loop
-μ-loop line₀ prog until slots slot₀ line slot = slots - slot
+μ-loop prog until line₀ slots slot₀ line slot = slots - slot
 
 loop-holds : tie.Need-loop-holds Inv-loop μ-loop
 loop-holds c = search needs
 
-same-length : tie.Need-same-length Inv-loop μ-loop
-same-length c = search needs
-
 returns : tie.Need-returns Inv-loop μ-loop
 returns c = search needs
+
+slice-aggregate-list-bytecode : tie.Need-slice-aggregate-list-bytecode Inv-loop μ-loop
+slice-aggregate-list-bytecode c = search needs
 
 list-bytecode-requires : tie.Need-list-bytecode-requires Inv-loop μ-loop
 list-bytecode-requires c κs = search needs
@@ -32,9 +33,6 @@ loop-less c = search needs
 loop-again : tie.Need-loop-again Inv-loop μ-loop
 loop-again c = search needs
 
-same-length-2 : tie.Need-same-length-2 Inv-loop μ-loop
-same-length-2 c = search needs
-
 returns-2 : tie.Need-returns-2 Inv-loop μ-loop
 returns-2 c = search needs
 
@@ -45,11 +43,10 @@ list-slots-spec =
     Inv-loop
     μ-loop
     loop-holds
-    same-length
     returns
+    slice-aggregate-list-bytecode
     list-bytecode-requires
     add-slot
     loop-less
     loop-again
-    same-length-2
     returns-2)
