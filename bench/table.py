@@ -9,7 +9,8 @@ The last line is `ratio R`: this library's instructions over the Rust's on the c
 import sys
 
 TITLES = [
-    ("sizes", "One program"),
+    ("sizes", "One program, on the longest page"),
+    ("pages", "One program, on a shorter page"),
     ("refused", "A program that is refused (the Rust makes its error's text)"),
     ("corpus", "The corpus"),
     ("filters", "The real filters"),
@@ -95,13 +96,18 @@ class Bench:
             print(f"\nRefused, and left out: {', '.join(left_out)}.")
 
     def passes(self):
-        """A program refused at its last slot is measured and not written: what is left of the accepted one is writing."""
+        """On a long page a program is checked and written, on a page that is too short to be sure measured and written; refused at its
+        last slot, it is checked and measured. The three make each pass's share."""
         by_name = {row[1]: label for label, row in self.rows.items()}
-        view = Table("ours", "in all", "up to the refusal at the last slot", "beyond")
-        for slots in [256, 2048]:
-            whole = self.counts[by_name[f"{slots} slots"] + 1]
-            measured = self.counts[by_name[f"{slots} slots, refused at the last"] + 1]
-            view.add(f"{slots} slots", whole, measured, whole - measured)
+        counts = [self.counts[by_name[f"2048 slots{where}"] + 1] for where in ["", ", page of 16384", ", refused at the last"]]
+        checked_written, measured_written, checked_measured = counts
+        view = Table("ours, 2,048 slots", "instructions", "a slot")
+        for name, doubled in [
+            ("checking", checked_written + checked_measured - measured_written),
+            ("measuring", checked_measured + measured_written - checked_written),
+            ("writing", checked_written + measured_written - checked_measured),
+        ]:
+            view.add(name, doubled // 2, per_slot(doubled / 2, 2048))
         view.show()
 
     def corpus(self):

@@ -128,6 +128,11 @@ pub fn rows(corpus_file: &str, filter_files: &[&str]) -> Result<Vec<Row>, String
         let plural = if slots == 1 { "slot" } else { "slots" };
         rows.push(row("sizes", format!("{slots} {plural}"), mixed(slots)));
     }
+    for (slots, page) in [(256, 4_096), (2_048, 32_768), (2_048, 16_384)] {
+        let mut shorter = row("pages", format!("{slots} slots, page of {page}"), mixed(slots));
+        shorter.cases[0].code_len = page;
+        rows.push(shorter);
+    }
     for slots in [256, 2_048] {
         let name = format!("{slots} slots, refused at the last");
         rows.push(Row { table: "refused", ..row("", name, refused_at_last(slots)) });

@@ -1,7 +1,7 @@
 -- Numbers as bytes, lowest first, and back. A number of 16, 32 or 64 bits that may be negative is its two's complement.
 -- Assumes nothing.
 use mathlib.Core.Path.{_≡_, refl, ap}
-use mathlib.Core.List.{List, [], _∷_, _++_}
+use mathlib.Core.List.{List, [], _∷_}
 use Prim.Native.Nat.{ℕ, zero, suc, _+_, _*_, _/_, _%_, _<_, _^_}
 use native.Mathlib.Omega.{arith}
 use lib.ListN.{length}

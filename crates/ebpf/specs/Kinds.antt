@@ -1,18 +1,15 @@
 -- The opcode table: what it has to hold, how an entry is read, and the law that an entry, read so, is its opcode's kind.
 -- Assumes nothing.
-use mathlib.Core.Path.{_≡_, refl}
+use mathlib.Core.Path.{_≡_, _∙_, refl}
 use mathlib.Core.Bool.{Bool, true, false}
 use mathlib.Core.List.{List, [], _∷_}
-use Prim.Native.Nat.{ℕ, zero, suc, _+_, _/_, _%_, _<_}
-use lib.Dec.{eqb}
-use lib.ListN.{length, getD}
-use Rattle.base.specs.Pick.{pick}
+use Prim.Native.Nat.{ℕ, _+_, _<_}
+use native.Mathlib.Omega.{arith}
+use lib.Dec.{ltb}
+use lib.ListN.{length, getD, List·getD-eq-default}
+use borrow.Author.Tests.{ltb-true, ltb-false}
 use Rattle.base.specs.declared.Width.{Width}
 use Rattle.base.specs.declared.Width.the-variants.{W32, W64}
-use Rattle.base.specs.declared.Size.{Size}
-use Rattle.base.specs.declared.Size.the-variants.{S8, S16, S32, S64}
-use Rattle.ebpf.specs.declared.kind.Source.{Source}
-use Rattle.ebpf.specs.declared.kind.Source.the-variants.{Imm, Reg}
 use Rattle.ebpf.specs.declared.kind.AluOp.{AluOp}
 use Rattle.ebpf.specs.declared.kind.AluOp.the-variants.{Add, Sub, Or, And, Xor}
 use Rattle.ebpf.specs.declared.kind.ShiftOp.{ShiftOp}
@@ -21,7 +18,6 @@ use Rattle.ebpf.specs.declared.kind.MulOp.{MulOp}
 use Rattle.ebpf.specs.declared.kind.MulOp.the-variants.{Mul, Div, Mod}
 use Rattle.ebpf.specs.declared.kind.Condition.{Condition}
 use Rattle.ebpf.specs.declared.kind.Condition.the-variants.{Jeq, Jgt, Jge, Jset, Jne, Jsgt, Jsge, Jlt, Jle, Jslt, Jsle}
-use Rattle.ebpf.specs.declared.kind.Kind.{Kind}
 use Rattle.ebpf.specs.declared.kind.Kind.the-variants.{LdAbs, LdInd, LdDwImm, LdReg, StImm, StReg, Alu, Shift, Neg, MulDivMod, Mov, Le, Be, Ja, Jump, Call, Exit}
 use Rattle.ebpf.specs.declared.kind.Lookup.{Lookup}
 use Rattle.ebpf.specs.declared.kind.Lookup.the-variants.{Known, Unimplemented, Unknown}
@@ -124,6 +120,22 @@ sized = refl
 -- the law: an entry is its opcode's kind
 pub entry : (o : ℕ) → o < 256 → numbered o (getD numbers o 0) ≡ kindOf o
 entry o h = rule kindOf numbered Unknown numbers 256 follows sized o h
+
+-- and its number
+counted : along (λ o x. x) 0 numbers ≡ values (λ o. numberOf (kindOf o)) 0 256
+unfolding numbers
+counted = refl
+
+pub number-at : (o : ℕ) → o < 256 → getD numbers o 0 ≡ numberOf (kindOf o)
+number-at o h = rule (λ o. numberOf (kindOf o)) (λ o x. x) 0 numbers 256 counted sized o h
+
+-- a number that is not 0 is an entry
+pub in-table : (o : ℕ) {x : ℕ} → x ≡ getD numbers o 0 → ¬ (x ≡ 0) → o < 256
+in-table o e n = by (ltb o 256) refl
+  where
+    by : (t : Bool) → ltb o 256 ≡ t → o < 256
+    by true q = ltb-true o 256 q
+    by false q = absurd (n (e ∙ List·getD-eq-default numbers 0 (omega (arith, sized, ltb-false o 256 q))))
 
 -- 120 opcodes are known, three are not implemented, 133 are unknown
 abbrev known : Lookup → ℕ

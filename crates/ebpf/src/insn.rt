@@ -1,8 +1,8 @@
 // A slot of the program, taken apart: `Insn` and `get_insn` of rbpf's ebpf.rs.
 ghost use mathlib.Core.Path.{_≡_};
-ghost use Prim.Native.Nat.{_+_, _≤_, _<_, _^_};
+ghost use Prim.Native.Nat.{_+_, _*_, _≤_, _<_, _^_};
 ghost use lib.ListN.{length};
-ghost use Rattle.ebpf.specs.Insn.{readAt, extend, le2, le4};
+ghost use Rattle.ebpf.specs.Insn.{insnAt, readAt, extend, le2, le4};
 use base::Slot;
 
 // The fields of a slot (RFC 9669, section 3.1). `off` is extended to 32 bits; `off` and `imm` are two's complement.
@@ -39,7 +39,7 @@ fn read_i16(s: &[u8], at: usize) -> u32
     b0 + 256 * b1
 }
 
-fn read_i32(s: &[u8], at: usize) -> u32
+pub fn read_i32(s: &[u8], at: usize) -> u32
     requires { ⌜ at + 4 ≤ length (now s) ⌝ }
     ensures { λ r. ⌜ r ≡ le4 (now (s .entry)) at ⌝ }
 {
@@ -55,29 +55,39 @@ fn extended(x: u32) -> u32
     requires { ⌜ x < 2 ^ 16 ⌝ }
     ensures { λ r. ⌜ r ≡ extend x ⌝ }
 {
-    if x < 32768 {
-        return x;
+    std::num::wrapping_sub_u32((x + 32768) % 65536, 32768)
+}
+
+// The offset, extended.
+pub fn offset_at(prog: &[u8], at: usize) -> u32
+    requires { ⌜ at + 2 ≤ length (now prog) ⌝ }
+    ensures { λ r. ⌜ r ≡ extend (le2 (now (prog .entry)) at) ⌝ }
+{
+    extended(read_i16(prog, at))
+}
+
+// The fields of a slot whose eight bytes are there.
+pub fn insn_at(prog: &[u8], slot: Slot) -> Insn
+    requires { ⌜ 8 * slot .number + 8 ≤ length (now prog) ⌝ }
+    ensures { λ r. ⌜ r ≡ insnAt (now (prog .entry)) (slot .number) ⌝ }
+{
+    let at = 8 * slot.number;
+    let registers = prog[at + 1];
+    Insn {
+        opc: prog[at],
+        dst: registers % 16,
+        src: registers / 16,
+        off: offset_at(prog, at + 2),
+        imm: read_i32(prog, at + 4),
     }
-    x + 4294901760
 }
 
 // Where the Rust panics, the answer is `Torn`.
 pub fn get_insn(prog: &[u8], slot: Slot) -> Read
     ensures { λ r. ⌜ r ≡ readAt (now (prog .entry)) (slot .number) ⌝ }
 {
-    let number = slot.number;
-    if prog.len() / 8 <= number {
+    if prog.len() / 8 <= slot.number {
         return Read::Torn;
     }
-    let at = 8 * number;
-    let registers = prog[at + 1];
-    let off = read_i16(prog, at + 2);
-    let imm = read_i32(prog, at + 4);
-    Read::Whole(Insn {
-        opc: prog[at],
-        dst: registers % 16,
-        src: registers / 16,
-        off: extended(off),
-        imm: imm,
-    })
+    Read::Whole(insn_at(prog, slot))
 }

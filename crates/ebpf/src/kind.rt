@@ -1,5 +1,6 @@
 // What kind of slot an opcode makes: a table of 256 entries, one for each opcode byte, and the kind that an entry stands for.
 ghost use mathlib.Core.Path.{_≡_};
+ghost use lib.ListN.{getD};
 ghost use Rattle.ebpf.specs.Opcode.{kindOf, sizeOf, sourceOf};
 ghost use Rattle.ebpf.specs.Kinds.{numbers, numbered, widthOf, aluOf, shiftOf, mulOf, conditionOf};
 use base::Size;
@@ -333,7 +334,7 @@ pub const KINDS: [u8; 256] = [
     0, // ff
 ];
 
-fn size_of(opc: u8) -> Size
+pub fn size_of(opc: u8) -> Size
     ensures { λ r. ⌜ r ≡ sizeOf opc ⌝ }
 {
     match opc / 8 % 4 {
@@ -344,7 +345,7 @@ fn size_of(opc: u8) -> Size
     }
 }
 
-fn width_of(opc: u8) -> Width
+pub fn width_of(opc: u8) -> Width
     ensures { λ r. ⌜ r ≡ widthOf opc ⌝ }
 {
     match opc % 8 {
@@ -354,7 +355,7 @@ fn width_of(opc: u8) -> Width
     }
 }
 
-fn source_of(opc: u8) -> Source
+pub fn source_of(opc: u8) -> Source
     ensures { λ r. ⌜ r ≡ sourceOf opc ⌝ }
 {
     match opc / 8 % 2 {
@@ -363,7 +364,7 @@ fn source_of(opc: u8) -> Source
     }
 }
 
-fn alu_of(opc: u8) -> AluOp
+pub fn alu_of(opc: u8) -> AluOp
     ensures { λ r. ⌜ r ≡ aluOf opc ⌝ }
 {
     match opc / 16 {
@@ -375,7 +376,7 @@ fn alu_of(opc: u8) -> AluOp
     }
 }
 
-fn shift_of(opc: u8) -> ShiftOp
+pub fn shift_of(opc: u8) -> ShiftOp
     ensures { λ r. ⌜ r ≡ shiftOf opc ⌝ }
 {
     match opc / 16 {
@@ -385,7 +386,7 @@ fn shift_of(opc: u8) -> ShiftOp
     }
 }
 
-fn mul_of(opc: u8) -> MulOp
+pub fn mul_of(opc: u8) -> MulOp
     ensures { λ r. ⌜ r ≡ mulOf opc ⌝ }
 {
     match opc / 16 {
@@ -395,7 +396,7 @@ fn mul_of(opc: u8) -> MulOp
     }
 }
 
-fn condition_of(opc: u8) -> Condition
+pub fn condition_of(opc: u8) -> Condition
     ensures { λ r. ⌜ r ≡ conditionOf opc ⌝ }
 {
     match opc / 16 {
@@ -440,13 +441,21 @@ fn kind_numbered(opc: u8, number: u8) -> Lookup
     }
 }
 
-// The kind of an opcode by the table, which a caller takes into a local once and lends, since an indexed constant is laid out anew
-// at each use.
+// An opcode's entry in the table, which a caller takes into a local once and lends, since an indexed constant is laid out anew at each
+// use.
+pub fn number_in(kinds: &[u8; 256], opc: u8) -> u8
+    requires { ⌜ now kinds ≡ numbers ⌝ }
+    ensures { λ r. ⌜ r ≡ getD numbers opc 0 ⌝ }
+{
+    kinds[opc as usize]
+}
+
+// The kind of an opcode by the table.
 pub fn kind_in(kinds: &[u8; 256], opc: u8) -> Lookup
     requires { ⌜ now kinds ≡ numbers ⌝ }
     ensures { λ r. ⌜ r ≡ kindOf opc ⌝ }
 {
-    kind_numbered(opc, kinds[opc as usize])
+    kind_numbered(opc, number_in(kinds, opc))
 }
 
 pub fn kind_of(opc: u8) -> Lookup

@@ -5,9 +5,8 @@ use mathlib.Core.Path.{_≡_, _∙_, refl, ap, sym}
 use mathlib.Core.List.{List, [], _∷_, _++_, append-assoc, append-nil}
 use Prim.Native.Nat.{ℕ, zero, suc, _+_, _-_, _%_, _/_, _≤_}
 use native.Mathlib.Omega.{arith}
-use native.Mathlib.Nat.{add-zero, add-assoc}
 use lib.ListN.{length, length-append, length-take, take, drop, set}
-use lib.Seq.{sets, sets-eq, take-append-add, take-append-le, drop-set-lt, drop-drop, take-take}
+use lib.Seq.{sets, sets-eq, take-append-add, take-append-le, drop-set-lt, drop-drop}
 use Rattle.base.specs.Bytes.{bytesOf, length-bytesOf}
 
 pub record Wrote (l l′ : List ℕ) (at r : ℕ) (ys : List ℕ) : Type 0 where

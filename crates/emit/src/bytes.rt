@@ -71,7 +71,11 @@ pub fn emit_rexed(
     requires { ⌜ (at .offset + 8 ≤ length (now code)) × ((size ≤ 7) × ((w < 2) × ((r < 16) × ((b < 16) × (rest < 2 ^ 56))))) ⌝ }
     ensures { λ x. ⌜ Wrote (now (code .entry)) (now (code .exit)) (at .offset) (x .offset) (rex w r b ++ bytesOf size rest) ⌝ }
 {
-    let bits = 8 * w + 4 * (r / 8) + b / 8;
+    let bits = 4 * (r / 8) + b / 8;
+    // At 64 bits there always is one: it is not tested for.
+    if w == 1 {
+        return emit_bytes(code, at, 72 + bits as u64 + 256 * rest, size + 1);
+    }
     if bits == 0 {
         return emit_bytes(code, at, rest, size);
     }

@@ -1,9 +1,9 @@
 -- What an accepted program's code and tables can grow to: at most 42 bytes and one listed jump a slot.
 -- Assumes nothing.
-use mathlib.Core.Path.{_≡_, _∙_, refl, ap, sym}
-use mathlib.Core.Bool.{Bool, true, false, _&&_, _||_}
+use mathlib.Core.Path.{_≡_, _∙_, refl, sym}
+use mathlib.Core.Bool.{Bool, true, false, _||_}
 use mathlib.Core.List.{List, [], _∷_, _++_}
-use Prim.Native.Nat.{ℕ, zero, suc, _+_, _*_, _/_, _≤_, _<_}
+use Prim.Native.Nat.{ℕ, zero, suc, _+_, _*_, _≤_}
 use native.Mathlib.Omega.{arith}
 use lib.Dec.{leb, ltb, leb→le}
 use lib.ListN.{length, length-append}
@@ -13,7 +13,6 @@ use Rattle.base.specs.Tests.{true-T}
 use Rattle.ebpf.specs.Insn.{insnAt, readAt}
 use Rattle.ebpf.specs.Opcode.{kindOf}
 use Rattle.ebpf.specs.declared.insn.Insn.{Insn}
-use Rattle.ebpf.specs.declared.insn.Read.{Read}
 use Rattle.ebpf.specs.declared.insn.Read.the-variants.{Whole, Torn}
 use Rattle.ebpf.specs.declared.kind.Kind.{Kind}
 use Rattle.ebpf.specs.declared.kind.Kind.the-variants.{LdAbs, LdInd, LdDwImm, LdReg, StImm, StReg, Alu, Shift, Neg, MulDivMod, Mov, Le, Be, Ja, Jump, Call, Exit}
@@ -25,10 +24,9 @@ use Rattle.jit.specs.declared.Bad.{Bad}
 use Rattle.jit.specs.declared.Bad.the-variants.{Nowhere, At}
 use Rattle.x86.specs.Code.{size, size-append, targetsOf, targets-append, fieldsOf, codeOf, length-bytes, length-fields}
 use Rattle.jit.specs.Limits.{shortestPage, longestPage, longestProgram}
-use Rattle.jit.specs.Slots.{slotCode}
 use Rattle.jit.specs.SlotSize.{slot-most, slot-jumps}
 use Rattle.jit.specs.Frame.{prologue, epilogue, prologue-size, epilogue-size, prologue-targets, epilogue-targets}
-use Rattle.jit.specs.Translation.{Inputs, slotsOf, Block, wideKind, blockOf, Operand, lacks, has, wideValue, operandOf, Step, stop, go, taken, known, goodRegisters, stepRead, stepAt, Walk, refused, done, joined, slotsWide, within, after, rest, flat, starts, entries, firstBad, Outcome, no, yes, whole, locations, exitOf, placeOf, accepted, unlessBad, finish, walkOf, badHelpers, sizesOf, translationOf}
+use Rattle.jit.specs.Translation.{Inputs, slotsOf, Block, wideKind, blockOf, Operand, lacks, has, wideValue, operandOf, Step, stop, go, taken, known, goodRegisters, stepRead, stepAt, Walk, refused, done, joined, slotsWide, within, after, rest, flat, firstBad, Outcome, no, yes, whole, locations, exitOf, placeOf, accepted, unlessBad, finish, walkOf, badHelpers, sizesOf, translationOf}
 
 -- A block that a slot gave: its bytes are all there, it is short, and it lists one jump at most.
 pub record Sound (program : List ℕ) (slot : ℕ) (b : Block) : Type 0 where
@@ -137,7 +135,7 @@ module _ (program ids addresses : List ℕ) (page : ℕ) where
       by true ih = good-after slot place (stepAt program ids addresses slot) (λ s p. rest fuel program ids addresses page s p) (step-fine program ids addresses slot) ih
       by false ih = tt
 
-wide-some : (w : Bool) → (1 ≤ slotsWide w) × (slotsWide w ≤ 2)
+pub wide-some : (w : Bool) → (1 ≤ slotsWide w) × (slotsWide w ≤ 2)
 wide-some true = omega arith
 wide-some false = omega arith
 

@@ -2,7 +2,7 @@
 -- Assumes nothing.
 use mathlib.Core.Path.{_≡_, _∙_, refl}
 use mathlib.Core.Bool.{Bool, true, false}
-use mathlib.Core.List.{List, [], _∷_, _++_}
+use mathlib.Core.List.{List, [], _∷_}
 use Prim.Native.Nat.{ℕ, zero, suc, _+_, _*_, _≤_}
 use native.Mathlib.Omega.{arith}
 use lib.Dec.{leb, ltb}
@@ -12,7 +12,7 @@ use Rattle.base.specs.Pick.{pick}
 use Rattle.jit.specs.declared.Flags.{Flags}
 use Rattle.x86.specs.Code.{size}
 use Rattle.jit.specs.Frame.{prologue}
-use Rattle.jit.specs.Bounds.{Good, rest-good, slotsIn, sounds-inside}
+use Rattle.jit.specs.Bounds.{Good, rest-good, slotsIn, sounds-inside, wide-some}
 use Rattle.jit.specs.Translation.{Inputs, slotsOf, Block, Step, stop, go, stepAt, Walk, refused, done, slotsWide, within, after, rest, starts, entries, locations, walkOf}
 
 -- The blocks are all the slots that the program has: the walk ends where no byte is left, and each block's bytes are there.
@@ -23,10 +23,6 @@ Spans n slot (done bs) = n ≤ 8 * (slot + slotsIn bs)
 module _ (x : Inputs) where
   abbrev n : ℕ
   n = length (x .program)
-
-  wide-some : (w : Bool) → 1 ≤ slotsWide w
-  wide-some true = omega arith
-  wide-some false = omega arith
 
   spans-within : (t : Bool) (slot : ℕ) (b : Block) (w : Walk) → Spans n (slot + slotsWide (b .wide)) w → Spans n slot (within t slot b w)
   spans-within true slot b (refused r) h = tt

@@ -2,13 +2,13 @@
 -- Assumes nothing.
 use mathlib.Core.Path.{_≡_, _∙_, refl, ap}
 use mathlib.Core.Bool.{Bool, true, false}
-use mathlib.Core.List.{List, [], _∷_, _++_}
+use mathlib.Core.List.{[], _∷_, _++_}
 use Prim.Native.Nat.{ℕ, _+_}
 use Rattle.base.specs.Pick.{pick}
 use Rattle.base.specs.declared.Width.the-variants.{W64}
 use Rattle.base.specs.declared.Size.the-variants.{S64}
 use Rattle.jit.specs.declared.Flags.{Flags}
-use Rattle.x86.specs.Registers.{RAX, RCX, RDX, RBX, RSP, RBP, RDI, R8, R9, R10, R13, R14, R15}
+use Rattle.x86.specs.Registers.{RCX, RDX, RBX, RSP, RBP, RDI, R8, R9, R10, R13, R14, R15}
 use Rattle.x86.specs.Instr.{op, push, pop, alu, aluImm, load, store, jump, jmp, call, ret, ADD, SUB, MOV}
 use Rattle.x86.specs.Code.{near, to, size, size-append, targetsOf}
 use Rattle.x86.specs.Encode.{rex, modrm, memory, bare, short}

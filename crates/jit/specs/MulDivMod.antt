@@ -2,7 +2,7 @@
 -- Assumes nothing.
 use mathlib.Core.Bool.{Bool, true, false, not}
 use mathlib.Core.List.{List, [], _∷_, _++_}
-use Prim.Native.Nat.{ℕ, suc, _+_}
+use Prim.Native.Nat.{ℕ, _+_}
 use lib.Dec.{eqb}
 use Rattle.base.specs.Pick.{pick}
 use Rattle.base.specs.declared.Width.{Width}
@@ -10,7 +10,7 @@ use Rattle.base.specs.declared.Width.the-variants.{W32, W64}
 use Rattle.ebpf.specs.declared.kind.MulOp.{MulOp}
 use Rattle.ebpf.specs.declared.kind.MulOp.the-variants.{Mul, Div, Mod}
 use Rattle.x86.specs.Registers.{RAX, RCX, RDX}
-use Rattle.x86.specs.Instr.{Instr, op, push, pop, alu, aluImm, unary, jump, jmp, jcc, MOV, XOR, TEST, MUL, DIV, Unary, JE, JNE}
+use Rattle.x86.specs.Instr.{Instr, op, push, pop, alu, aluImm, unary, jump, jmp, jcc, MOV, XOR, TEST, MUL, DIV, JE, JNE}
 use Rattle.x86.specs.Code.{Dest, near, to, size}
 
 abbrev pub Code : Type 0

@@ -1,7 +1,6 @@
 -- The number and the slot of each refusal: document 01's table. A refusal that names no slot gives 0.
 -- Assumes nothing.
 use Prim.Native.Nat.{ℕ}
-use Rattle.base.specs.declared.Slot.{Slot}
 use Rattle.jit.specs.declared.Refusal.{Refusal}
 use Rattle.jit.specs.declared.Refusal.the-variants.{PageTooShort, PageTooLong, ProgramTooLong, TableTooShort, BadHelpers, Torn, BadRegister, UnknownOpcode, Unimplemented, BadSwap, UnknownHelper, BadCall, NoRoom, BadTarget}
 

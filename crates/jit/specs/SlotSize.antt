@@ -1,8 +1,8 @@
 -- No slot has more than 42 bytes, and none lists more than one jump.
 -- Assumes nothing.
-use mathlib.Core.Path.{_≡_, refl}
+use mathlib.Core.Path.{_≡_}
 use mathlib.Core.Bool.{Bool, true, false, not}
-use mathlib.Core.List.{List, [], _∷_, _++_}
+use mathlib.Core.List.{[], _∷_, _++_}
 use Prim.Native.Nat.{ℕ, _+_, _%_, _^_, _≤_}
 use native.Mathlib.Omega.{arith}
 use native.Mathlib.Nat.{le-trans}
@@ -17,13 +17,13 @@ use Rattle.ebpf.specs.declared.kind.MulOp.{MulOp}
 use Rattle.ebpf.specs.declared.kind.MulOp.the-variants.{Mul, Div, Mod}
 use Rattle.ebpf.specs.declared.kind.Kind.{Kind}
 use Rattle.ebpf.specs.declared.kind.Kind.the-variants.{LdAbs, LdInd, LdDwImm, LdReg, StImm, StReg, Alu, Shift, Neg, MulDivMod, Mov, Le, Be, Ja, Jump, Call, Exit}
-use Rattle.x86.specs.Registers.{RAX, RCX, RDX, RBX, R9, R10, R11, R13, R14, R15}
-use Rattle.x86.specs.Instr.{Instr, Plain, op, push, pop, alu, aluImm, unary, movabs, rol16, bswap, shiftImm, shiftCl, load, store, storeImm, jump, jmp, call, jcc, callReg, ret, MOV, ADD, XOR, TEST, MUL, DIV, AND, JE, JNE}
+use Rattle.x86.specs.Registers.{RAX, RCX, RDX}
+use Rattle.x86.specs.Instr.{op, push, pop, alu, aluImm, unary, movabs, rol16, bswap, jump, callReg, ret, MOV, XOR, TEST, MUL, DIV, AND}
 use Rattle.x86.specs.Encode.{rex, len, jumpOpcode}
 use Rattle.x86.specs.Lengths.{most, rex-most, plain-most}
-use Rattle.x86.specs.Code.{Dest, to, near, size, size-append, targetsOf, targets-append}
-use Rattle.jit.specs.MulDivMod.{Code, when, unlessIs, byZero, divByZero, tested, guard, operate, fromRax, saved, restored, saves, restores, operated, computed, mulDivModImm, mulDivModReg}
-use Rattle.jit.specs.Slots.{regOf, targetOf, shiftOf, testOf, loadImm, swap, helperCall, localCall, slotCode}
+use Rattle.x86.specs.Code.{Dest, size, size-append, targetsOf, targets-append}
+use Rattle.jit.specs.MulDivMod.{Code, when, unlessIs, byZero, guard, operate, fromRax, saved, restored, saves, restores, operated, computed, mulDivModImm, mulDivModReg}
+use Rattle.jit.specs.Slots.{regOf, targetOf, loadImm, swap, helperCall, localCall, slotCode}
 
 -- the sum of what each instruction can get, where it is a number
 abbrev bound : Code → ℕ

@@ -1,15 +1,13 @@
 -- What each kind of slot becomes: the match of `jit_compile` in the Rust, kind by kind. Where RFC 9669 means something else,
 -- docs/DIFFERENCES.md has an entry.
 -- Assumes nothing.
-use mathlib.Core.Bool.{Bool, true, false}
-use mathlib.Core.List.{List, [], _∷_, _++_}
+use mathlib.Core.List.{[], _∷_}
 use Prim.Native.Nat.{ℕ, _+_, _%_, _^_}
-use lib.Dec.{leb, ltb, eqb}
+use lib.Dec.{ltb, eqb}
 use lib.ListN.{getD}
 use Rattle.base.specs.Pick.{pick}
 use Rattle.base.specs.declared.Width.{Width}
 use Rattle.base.specs.declared.Width.the-variants.{W32, W64}
-use Rattle.base.specs.declared.Size.{Size}
 use Rattle.ebpf.specs.declared.insn.Insn.{Insn}
 use Rattle.ebpf.specs.declared.kind.Source.{Source}
 use Rattle.ebpf.specs.declared.kind.Source.the-variants.{Imm, Reg}

@@ -1,11 +1,10 @@
 -- Lengths of instructions, put together from those of their parts.
 -- Assumes nothing.
-use mathlib.Core.Path.{_≡_, _∙_, refl, ap, sym}
+use mathlib.Core.Path.{_≡_, refl}
 use mathlib.Core.Bool.{Bool, true, false, not}
 use mathlib.Core.List.{List, [], _∷_, _++_}
 use Prim.Native.Nat.{ℕ, _+_, _*_, _/_, _%_, _^_, _≤_, _<_}
 use native.Mathlib.Omega.{arith}
-use lib.Dec.{eqb, ltb}
 use lib.ListN.{length, length-append}
 use borrow.Author.Tests.{eq-eqb, ne-eqb}
 use Rattle.base.specs.Pick.{pick}
@@ -13,8 +12,8 @@ use Rattle.base.specs.Bytes.{le32}
 use Rattle.base.specs.declared.Width.{Width}
 use Rattle.base.specs.declared.Width.the-variants.{W32, W64}
 use Rattle.base.specs.declared.Size.{Size}
-use Rattle.x86.specs.Instr.{MOV, aluImm, movabs, load, store, storeImm}
-use Rattle.x86.specs.Encode.{wide, aluOpcode, aluImmOpcode, aluExtension, shiftExtension, rex, rexBits, modrm, bare, short, memory, wideSize, loadOpcode, prefix66, storeRex, storeOpcode, storeImmOpcode, immBytes, encodePlain}
+use Rattle.x86.specs.Instr.{MOV, aluImm, load, store, storeImm}
+use Rattle.x86.specs.Encode.{wide, aluOpcode, aluImmOpcode, aluExtension, shiftExtension, rex, modrm, bare, short, memory, wideSize, loadOpcode, prefix66, storeRex, storeOpcode, storeImmOpcode, immBytes, encodePlain}
 use Rattle.base.specs.Bytes.{le64}
 use Rattle.ebpf.specs.declared.insn.Insn.{Insn}
 use Rattle.ebpf.specs.declared.kind.Source.{Source}
@@ -29,7 +28,7 @@ use Rattle.x86.specs.Registers.{RAX, RCX, RDX, R10, R11}
 use Rattle.x86.specs.Instr as x86
 use Rattle.x86.specs.Instr.{alu, op, TEST, XOR}
 use Rattle.x86.specs.Code.{size, size-append}
-use Rattle.jit.specs.MulDivMod.{Code, saves, saved, restored, restores, fromRax, operate, operated, computed, byZero, guard}
+use Rattle.jit.specs.MulDivMod.{Code, saves, restored, restores, fromRax, operate, operated, computed, byZero, guard}
 use Rattle.jit.specs.Slots.{regOf, targetOf, loadImm, aluOf, shiftOf, testOf, aluCode, shiftCode, movCode, mulDivModCode, jumpCode, swap, helperCall, localCall, callCode, slotCode}
 use Rattle.slots.specs.Codes.{load-short, load-long}
 

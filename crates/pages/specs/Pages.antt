@@ -9,7 +9,7 @@ use lib.ListN.{length, take}
 use Rattle.x86.specs.Fill.{take-over}
 use Rattle.jit.specs.Translation.{Inputs, slotsOf, Outcome, no, yes, translationOf}
 use Rattle.processor.specs.Demand3.{Given, Demand3}
-use Rattle.processor.specs.Program.{Parts, parts}
+use Rattle.processor.specs.Program.{parts}
 use Rattle.processor.specs.Proved.{demand3}
 use Rattle.translator.specs.Translated.{Translated}
 use Rattle.translator.specs.declared.translate.Answer.{Answer}

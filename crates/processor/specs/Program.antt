@@ -7,7 +7,7 @@ use mathlib.Core.List.{List, [], _∷_, _++_}
 use Prim.Native.Nat.{ℕ, zero, suc, _+_, _*_, _^_, _≤_, _<_}
 use native.Mathlib.Omega.{arith}
 use lib.Dec.{T, leb, ltb, eqb}
-use lib.ListN.{length, getD, length-append}
+use lib.ListN.{length, getD}
 use borrow.Author.Tests.{ltb-true, ltb-false}
 use Rattle.base.specs.Pick.{pick}
 use Rattle.ebpf.specs.Insn.{le2, extend, insnAt, readAt}
@@ -28,9 +28,9 @@ use Rattle.base.specs.Tests.{true-T}
 use Rattle.jit.specs.declared.Flags.{Flags}
 use Rattle.jit.specs.Limits.{shortestPage, longestPage, longestProgram, anchor}
 use Rattle.jit.specs.Frame.{prologue, epilogue, prologue-targets, epilogue-targets}
-use Rattle.jit.specs.Translation.{Inputs, slotsOf, found, helperOf, Block, blockOf, Operand, lacks, has, wideValue, swapBits, helperValue, operandOf, Step, stop, go, taken, known, goodRegisters, stepRead, stepAt, Walk, refused, done, slotsWide, within, after, rest, flat, entries, starts, goodTarget, badIn, orElse, firstBad, Outcome, no, yes, whole, locations, exitOf, placeOf, accepted, unlessBad, finish, walkOf, badHelpers, sizesOf, translationOf}
+use Rattle.jit.specs.Translation.{Inputs, slotsOf, found, helperOf, Block, blockOf, Operand, lacks, has, wideValue, swapBits, helperValue, operandOf, Step, stop, go, taken, known, goodRegisters, stepRead, stepAt, Walk, refused, done, slotsWide, within, after, rest, flat, goodTarget, badIn, orElse, firstBad, Outcome, no, yes, whole, locations, exitOf, placeOf, accepted, unlessBad, finish, walkOf, badHelpers, sizesOf, translationOf}
 use Rattle.jit.specs.Counted.{all-slots, length-locations}
-use Rattle.jit.specs.Bounds.{slotsIn, Good, rest-good, sounds-inside, Bound, bounds}
+use Rattle.jit.specs.Bounds.{Bound, bounds}
 use Rattle.processor.specs.Demand3.{Given}
 use Rattle.processor.specs.NotedCode.{Numbers}
 

@@ -1,15 +1,15 @@
 -- What emitting a slot leaves: its instructions in the page, their fields blank, and each listed jump's field and target in the tables.
 -- Assumes nothing.
 use mathlib.Core.Path.{_≡_, _∙_, refl, ap, sym}
-use mathlib.Core.List.{List, [], _∷_, _++_, append-assoc, append-nil}
+use mathlib.Core.List.{List, [], _∷_, _++_}
 use Prim.Native.Nat.{ℕ, suc, _+_, _-_, _≤_, _<_, _^_}
 use native.Mathlib.Omega.{arith}
 use native.Mathlib.Nat.{add-zero, add-suc, suc-add}
 use lib.ListN.{length, length-append, set}
 use lib.Seq.{sets}
-use Rattle.x86.specs.Instr.{Instr, Jump, jump}
-use Rattle.x86.specs.Encode.{encode, len, jumpOpcode}
-use Rattle.x86.specs.Code.{Dest, to, size, size-append, blanks, blanks-append, length-blanks, fieldsOf, fields-append, targetsOf, targets-append, length-fields}
+use Rattle.x86.specs.Instr.{Jump, jump}
+use Rattle.x86.specs.Encode.{jumpOpcode}
+use Rattle.x86.specs.Code.{to, size, size-append, blanks, blanks-append, length-blanks, fieldsOf, fields-append, targetsOf, targets-append, length-fields}
 use Rattle.emit.specs.Wrote.{Wrote, then}
 use Rattle.jit.specs.MulDivMod.{Code}
 

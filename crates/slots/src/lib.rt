@@ -5,4 +5,3 @@ pub mod jump;
 pub mod load;
 pub mod muldivmod;
 pub mod register;
-pub mod slot;

@@ -1,36 +1,29 @@
 -- What the translator answers, and what it leaves in what it was lent.
 -- Assumes nothing.
 use mathlib.Core.Path.{_≡_, _∙_, refl, ap, sym}
-use mathlib.Core.Bool.{Bool, true, false}
 use mathlib.Core.List.{List, [], _∷_, _++_, append-assoc, append-nil}
-use Prim.Native.Nat.{ℕ, zero, suc, _+_, _-_, _/_, _<_, _≤_, _^_}
+use Prim.Native.Nat.{ℕ, _+_, _-_, _<_, _≤_}
 use native.Mathlib.Omega.{arith}
 use native.Mathlib.Nat.{zero-add}
-use lib.Dec.{leb, ltb}
 use lib.ListN.{length, length-append, take, drop, getD, set, List·getD-append}
 use lib.Seq.{sets, sets-eq}
-use borrow.Author.Tests.{lt-leb, le-leb}
-use Rattle.base.specs.declared.Slot.{Slot}
+use borrow.Author.Tests.{le-leb}
 use Rattle.jit.specs.declared.Flags.{Flags}
 use Rattle.jit.specs.declared.Refusal.{Refusal}
-use Rattle.jit.specs.declared.Bad.{Bad}
-use Rattle.jit.specs.declared.Bad.the-variants.{Nowhere, At}
-use Rattle.x86.specs.Code.{size, size-append, blanks, blanks-append, length-blanks, lowered, bytes, length-bytes, fieldsOf, fields-append, targetsOf, targets-append, length-fields, codeOf}
+use Rattle.x86.specs.Code.{size, blanks, blanks-append, length-blanks, length-bytes, fieldsOf, fields-append, targetsOf, targets-append, length-fields, codeOf}
 use Rattle.x86.specs.Fill.{filled, over, sets-over, take-over, fill-all}
 use Rattle.emit.specs.Wrote.{Wrote, then, later}
+use Rattle.jit.specs.MulDivMod.{Code}
 use Rattle.jit.specs.Frame.{prologue, epilogue, epilogue-size, prologue-targets, epilogue-targets}
-use Rattle.jit.specs.Translation.{Inputs, slotsOf, at, Block, Walk, refused, done, flat, starts, locations, exitOf, placeOf, whole, accepted, unlessBad, firstBad, finish, Outcome, no, yes, walkOf, rest, sizesOf, translationOf}
+use Rattle.jit.specs.Translation.{Inputs, slotsOf, at, Block, Walk, refused, done, flat, starts, locations, exitOf, placeOf, whole, finish, Outcome, no, yes, walkOf, translationOf}
 use Rattle.jit.specs.Bounds.{slotsIn, whole-size, whole-jumps}
 use Rattle.jit.specs.Counted.{length-locations}
-use Rattle.translator.specs.Resolve.{fields-inside}
-use Rattle.translator.specs.Sizes.{Sizes, begins, sizes-begin}
-use Rattle.translator.specs.declared.sizes.Sized.{Sized}
-use Rattle.slots.specs.Emits.{Put, puts, Emits, sets-append}
-use Rattle.walk.specs.Writes.{Holds, Writes, Fitting}
-use Rattle.walk.specs.Measures.{measuredIs}
-use Rattle.walk.specs.declared.measure.Measured.{Measured}
-use Rattle.walk.specs.declared.measure.Measured.the-variants.{Done}
-use Rattle.walk.specs.declared.measure.Measured.the-variants as measured
+use Rattle.resolving.specs.Resolve.{fields-inside}
+use Rattle.judging.specs.Sizes.{Sizes, begins, sizes-begin}
+use Rattle.judging.specs.declared.verdict.Verdict.{Verdict}
+use Rattle.walk.specs.Acceptable.{Acceptable}
+use Rattle.slots.specs.Emits.{Emits, sets-append}
+use Rattle.writing.specs.Writes.{Holds, Writes, Fitting}
 use Rattle.translator.specs.declared.translate.Answer.{Answer}
 use Rattle.translator.specs.declared.translate.Answer.the-variants.{Accepted, Refused}
 
@@ -75,80 +68,50 @@ pub refuses : {o : Outcome} {c l f t : List ℕ} {r : Refusal} → o ≡ no r �
 refuses e = rw e (record { answer = refl; code = refl; locations = refl; fields = refl; targets = refl })
 
 -- what the writing pass leaves, the prologue's part with it
-abbrev BegunAs : Walk → Flags → (c c′ l l′ f f′ t t′ : List ℕ) → Type 0
-BegunAs (refused r) g c c′ l l′ f f′ t t′ = Unit {0}
-BegunAs (done bs) g c c′ l l′ f f′ t t′ =
-    Wrote c c′ 0 (size (prologue g) + size (flat bs)) (blanks (prologue g ++ flat bs))
-    × ((l′ ≡ sets l 0 (starts (size (prologue g)) bs))
-    × ((f′ ≡ sets f 0 (fieldsOf 0 (prologue g ++ flat bs))) × (t′ ≡ sets t 0 (targetsOf (prologue g ++ flat bs)))))
+pub record Head (bs : List Block) (g : Flags) (c c′ l l′ f f′ t t′ : List ℕ) (end jumps : ℕ) : Type 0 where
+  pub end-is : end ≡ size (prologue g) + size (flat bs)
+  pub jumps-are : jumps ≡ 1 + length (targetsOf (flat bs))
+  pub few : jumps ≤ slotsIn bs + 1
+  pub code : Wrote c c′ 0 (size (prologue g) + size (flat bs)) (blanks (prologue g ++ flat bs))
+  pub locations : l′ ≡ sets l 0 (starts (size (prologue g)) bs)
+  pub fields : f′ ≡ sets f 0 (fieldsOf 0 (prologue g ++ flat bs))
+  pub targets : t′ ≡ sets t 0 (targetsOf (prologue g ++ flat bs))
 
-pub record Begun (w : Walk) (g : Flags) (c c′ l l′ f f′ t t′ : List ℕ) : Type 0 where
-  pub state : BegunAs w g c c′ l l′ f f′ t t′
+abbrev BegunAs : Walk → Flags → (c c′ l l′ f f′ t t′ : List ℕ) → (end jumps : ℕ) → Type 0
+BegunAs (refused r) g c c′ l l′ f f′ t t′ end jumps = Unit {0}
+BegunAs (done bs) g c c′ l l′ f f′ t t′ end jumps = Head bs g c c′ l l′ f f′ t t′ end jumps
 
-pub began : {w : Walk} {g : Flags} {start p j : ℕ} {c c₁ c₂ l l₁ f f₁ f₂ t t₁ t₂ : List ℕ} → start ≡ size (prologue g)
-    → Emits c c₁ f f₁ t t₁ 0 0 p j (prologue g) → Writes w start c₁ c₂ l l₁ f₁ f₂ t₁ t₂ → Begun w g c c₂ l l₁ f f₂ t t₂
-began {w} {g} {start} {p} {j} {c} {c₁} {c₂} {l} {l₁} {f} {f₁} {f₂} {t} {t₁} {t₂} s e h = record { state = by w (h .holds) }
+pub record Begun (w : Walk) (g : Flags) (c c′ l l′ f f′ t t′ : List ℕ) (end jumps : ℕ) : Type 0 where
+  pub state : BegunAs w g c c′ l l′ f f′ t t′ end jumps
+
+pub began : {w : Walk} {g : Flags} {start p j end jumps : ℕ} {c c₁ c₂ l l₁ f f₁ f₂ t t₁ t₂ : List ℕ} → start ≡ size (prologue g)
+    → Emits c c₁ f f₁ t t₁ 0 0 p j (prologue g) → Writes w start c₁ c₂ l l₁ f₁ f₂ t₁ t₂ end jumps → Begun w g c c₂ l l₁ f f₂ t t₂ end jumps
+began {w} {g} {start} {p} {j} {end} {jumps} {c} {c₁} {c₂} {l} {l₁} {f} {f₁} {f₂} {t} {t₁} {t₂} s e h = record { state = by w (h .holds) }
   where
     place : p ≡ size (prologue g)
     place = e .wrote .next ∙ rw (length-blanks (prologue g)) (zero-add (size (prologue g)))
 
-    jumps : j ≡ 1
-    jumps = e .targets .next ∙ rw (prologue-targets g) refl
-
-    by : (w : Walk) → Holds w start c₁ c₂ l l₁ f₁ f₂ t₁ t₂ → BegunAs w g c c₂ l l₁ f f₂ t t₂
+    by : (w : Walk) → Holds w start c₁ c₂ l l₁ f₁ f₂ t₁ t₂ end jumps → BegunAs w g c c₂ l l₁ f f₂ t t₂ end jumps
     by (refused r) x = tt
     by (done bs) x =
         let pf : 1 ≡ 0 + length (fieldsOf 0 (prologue g)) = omega (arith, length-fields 0 (prologue g), ap length (prologue-targets g)) in
-        let pt : 1 ≡ 0 + length (targetsOf (prologue g)) = omega (arith, ap length (prologue-targets g)) in (
-          rw (blanks-append (prologue g) (flat bs)) (then (e .wrote) (rw (place, ← s) (x .0))),
-          (
-            rw (← s) (x .1 .0),
-            (
-              x .1 .1 .0 ∙ rw (e .fields .is, pf, sets-append f 0 (fieldsOf 0 (prologue g)) (fieldsOf start (flat bs)), s, fields-append 0 (prologue g) (flat bs), zero-add (size (prologue g))) refl,
-              x .1 .1 .1 ∙ rw (e .targets .is, pt, sets-append t 0 (targetsOf (prologue g)) (targetsOf (flat bs)), targets-append (prologue g) (flat bs)) refl,
-            ),
-          ),
-        )
+        let pt : 1 ≡ 0 + length (targetsOf (prologue g)) = omega (arith, ap length (prologue-targets g)) in
+        record {
+          end-is = x .end-is ∙ rw s;
+          jumps-are = x .jumps-are;
+          few = x .few;
+          code = rw (blanks-append (prologue g) (flat bs)) (then (e .wrote) (rw (place, ← s) (x .code)));
+          locations = rw (← s) (x .locations);
+          fields =
+              x .fields
+              ∙ rw (e .fields .is, pf, sets-append f 0 (fieldsOf 0 (prologue g)) (fieldsOf start (flat bs)), s, fields-append 0 (prologue g) (flat bs), zero-add (size (prologue g))) refl;
+          targets = x .targets ∙ rw (e .targets .is, pt, sets-append t 0 (targetsOf (prologue g)) (targetsOf (flat bs)), targets-append (prologue g) (flat bs)) refl;
+        }
 
 -- and the last part
 pub record Ended (n end jumps : ℕ) (c c′ l l′ f t : List ℕ) : Type 0 where
   pub locations : l′ ≡ set l n 0
   pub code : c′ ≡ filled (placeOf (take (n + 1) l′) end) (take jumps f) (take jumps t) (sets c end (blanks epilogue))
-
--- an answer's parts
-abbrev endOf : Measured → ℕ
-endOf (Done e j b) = e
-endOf (measured.Refused r) = 0
-
-abbrev jumpsOf : Measured → ℕ
-jumpsOf (Done e j b) = j
-jumpsOf (measured.Refused r) = 0
-
-abbrev badOf : Measured → Bad
-badOf (Done e j b) = b
-badOf (measured.Refused r) = Nowhere
-
--- what the measuring pass says settles the outcome
-pub ended : (g : Flags) (n page : ℕ) (w : Walk) {r : Refusal} → measured.Refused r ≡ measuredIs n (size (prologue g)) w → finish g n page w ≡ no r
-ended g n page (refused s) e = cc
-ended g n page (done bs) e = cc
-
-module _ (g : Flags) (n page : ℕ) where
-  pub no-room : (w : Walk) {e j : ℕ} {b : Bad} → Done e j b ≡ measuredIs n (size (prologue g)) w → page < e + 16 → finish g n page w ≡ no (Refusal.NoRoom (at n))
-  no-room (refused s) q h = cc
-  no-room (done bs) {e} q h =
-      let d : e ≡ size (prologue g) + size (flat bs) = ap endOf q in
-      let long : page < size (whole g bs) = omega (arith, whole-size g bs, d) in
-      rw (lt-leb _ _ long)
-
-  pub bad-jump : (w : Walk) {e j : ℕ} {b : Bad} {s : Slot} → Done e j b ≡ measuredIs n (size (prologue g)) w → b ≡ At s → e + 16 ≤ page
-      → finish g n page w ≡ no (Refusal.BadTarget s)
-  bad-jump (refused r) q f h = cc
-  bad-jump (done bs) {e} {b = b} q f h =
-      let d : e ≡ size (prologue g) + size (flat bs) = ap endOf q in
-      let x : b ≡ firstBad n 0 bs = ap badOf q in
-      let fits : size (whole g bs) ≤ page = omega (arith, whole-size g bs, d) in
-      rw (le-leb _ _ fits, ← x, f)
 
 -- what an accepted program's fields are, and that they lie in the page
 one-list : (g : Flags) (bs : List Block) → (prologue g ++ flat bs) ++ epilogue ≡ whole g bs
@@ -175,19 +138,6 @@ all-targets g bs =
     ∙ sym (targets-append (prologue g ++ flat bs) epilogue)
     ∙ ap targetsOf (one-list g bs)
 
-pub inside : (g : Flags) (n page : ℕ) (w : Walk) {e j : ℕ} {b : Bad} {c c₁ l l₁ f f₁ t t₁ : List ℕ} → Done e j b ≡ measuredIs n (size (prologue g)) w
-    → e + 16 ≤ page → j ≤ length f → Begun w g c c₁ l l₁ f f₁ t t₁ → (k : ℕ) → k < j → getD f₁ k 0 + 4 ≤ page
-inside g n page (refused r) q h hf x k m = let z : _≡_ {A = ℕ} 0 1 = cc in absurd (omega arith)
-inside g n page (done bs) {e} {j} {f = f} {f₁ = f₁} q h hf x k m =
-    let is = whole g bs in
-    let d : e ≡ size (prologue g) + size (flat bs) = ap endOf q in
-    let u : j ≡ 1 + length (targetsOf (flat bs)) = ap jumpsOf q in
-    let lf : length (fieldsOf 0 is) ≡ j = length-fields 0 is ∙ whole-jumps g bs ∙ sym u in
-    let fs : f₁ ≡ fieldsOf 0 is ++ drop (length (fieldsOf 0 is)) f =
-    x .state .1 .1 .0 ∙ rw (all-fields g bs) (sets-over (fieldsOf 0 is) f (omega (arith, lf))) in
-    let at-k : getD f₁ k 0 ≡ getD (fieldsOf 0 is) k 0 = rw fs (List·getD-append (fieldsOf 0 is) (drop (length (fieldsOf 0 is)) f) 0 k (omega (arith, lf))) in
-    omega (arith, at-k, fields-inside 0 is k (omega (arith, lf)), whole-size g bs, d)
-
 -- The blank code, with the epilogue behind it, and everything further as it was.
 written : (g : Flags) (bs : List Block) {c c₁ : List ℕ} {e : ℕ} → e ≡ size (prologue g) + size (flat bs) → e + 16 ≤ length c₁
     → Wrote c c₁ 0 e (blanks (prologue g ++ flat bs)) → sets c₁ e (blanks epilogue) ≡ blanks (whole g bs) ++ drop (size (whole g bs)) c
@@ -206,50 +156,69 @@ set-sets l xs n e h =
     ∙ sets-append l 0 xs (0 ∷ [])
     ∙ sets-over (xs ++ (0 ∷ [])) l (omega (arith, length-append xs (0 ∷ []), e))
 
--- What is written and filled is what the definition says.
-pub accepts : (g : Flags) (n page : ℕ) (w : Walk) {e j : ℕ} {b : Bad} {c c₁ c₂ l l₁ l₂ f f₁ t t₁ : List ℕ}
-    → Done e j b ≡ measuredIs n (size (prologue g)) w → b ≡ Nowhere → e + 16 ≤ page → page ≤ 131072 → page ≡ length c → length c₁ ≡ length c
-    → n < length l → j ≤ length f → j ≤ length t → ((bs : List Block) → w ≡ done bs → slotsIn bs ≡ n)
-    → Begun w g c c₁ l l₁ f f₁ t t₁ → Ended n e j c₁ c₂ l₁ l₂ f₁ t₁
-    → Translated (finish g n page w) c c₂ l l₂ f f₁ t t₁ (Accepted (e + 16) j)
-accepts g n page (refused r) q y h k m m₁ hl hf ht all x z = let o : _≡_ {A = ℕ} 0 1 = cc in absurd (omega arith)
-accepts g n page (done bs) {e} {j} {b} {c} {c₁} {c₂} {l} {l₁} {l₂} {f} {f₁} {t} {t₁} q y h k m m₁ hl hf ht all x₀ z =
-    let x = x₀ .state in
-    let is = whole g bs in
-    let loc = placeOf (locations g bs) (exitOf g bs) in
-    let d : e ≡ size (prologue g) + size (flat bs) = ap endOf q in
-    let v : b ≡ firstBad n 0 bs = ap badOf q in
-    let u : j ≡ 1 + length (targetsOf (flat bs)) = ap jumpsOf q in
-    let sz : size is ≡ e + 16 = omega (arith, whole-size g bs, d) in
-    let fits : size is ≤ page = omega (arith, sz) in
-    let o : finish g n page (done bs) ≡ yes (codeOf loc is) (locations g bs) (fieldsOf 0 is) (targetsOf is) = rw (le-leb _ _ fits, ← v, y) in
-    let ll : length (locations g bs) ≡ n + 1 = length-locations g bs ∙ rw (all bs refl) in
-    let nl : length (starts (size (prologue g)) bs) ≡ n = omega (arith, ll, length-append (starts (size (prologue g)) bs) (0 ∷ [])) in
-    let lf : length (fieldsOf 0 is) ≡ j = length-fields 0 is ∙ whole-jumps g bs ∙ sym u in
-    let lt : length (targetsOf is) ≡ j = whole-jumps g bs ∙ sym u in
-    let ls : l₂ ≡ over (locations g bs) l = z .locations ∙ rw (x .1 .0) (set-sets l (starts (size (prologue g)) bs) n nl hl) in
-    let fs : f₁ ≡ over (fieldsOf 0 is) f = x .1 .1 .0 ∙ rw (all-fields g bs) (sets-over (fieldsOf 0 is) f (omega (arith, lf))) in
-    let ts : t₁ ≡ over (targetsOf is) t = x .1 .1 .1 ∙ rw (all-targets g bs) (sets-over (targetsOf is) t (omega (arith, lt))) in
-    let tl : take (n + 1) l₂ ≡ locations g bs = rw ls (take-over (locations g bs) l (n + 1) ll) in
-    let tf : take j f₁ ≡ fieldsOf 0 is = rw fs (take-over (fieldsOf 0 is) f j lf) in
-    let tg : take j t₁ ≡ targetsOf is = rw ts (take-over (targetsOf is) t j lt) in
-    let wr : Wrote c c₁ 0 e (blanks (prologue g ++ flat bs)) = rw d (x .0) in
-    let lb : length (codeOf loc is) ≡ size is = length-bytes loc 0 is in
-    let cs : c₂ ≡ over (codeOf loc is) c =
-    z .code
-    ∙ rw (tl, tf, tg, written g bs d (omega (arith, m, m₁)) wr, d)
-    (fill-all loc is [] (drop (size is) c) 0 refl (omega (arith, sz)) ∙ rw lb refl) in
-    rw o (record { answer = rw (lb, sz, lf); code = cs; locations = ls; fields = fs; targets = ts })
+-- An accepted walk, begun: the prologue and the slots are written.
+module _ {g : Flags} {n page : ℕ} {w : Walk} (a : Acceptable n page (size (prologue g)) w) (all : (bs : List Block) → w ≡ done bs → slotsIn bs ≡ n)
+    {e j : ℕ} {c c₁ l l₁ f f₁ t t₁ : List ℕ} (x : Begun w g c c₁ l l₁ f f₁ t t₁ e j) where
+  abbrev is : Code
+  is = whole g (a .bs)
+
+  head : Head (a .bs) g c c₁ l l₁ f f₁ t t₁ e j
+  head = rw (a .walk) at (x .state)
+
+  slots : slotsIn (a .bs) ≡ n
+  slots = all (a .bs) (a .walk)
+
+  pub ends-inside : e + 16 ≤ page
+  ends-inside = omega (arith, head .end-is, a .room)
+
+  pub few-jumps : j ≤ n + 1
+  few-jumps = omega (arith, head .few, slots)
+
+  sized : size is ≡ e + 16
+  sized = omega (arith, whole-size g (a .bs), head .end-is)
+
+  listed : length (fieldsOf 0 is) ≡ j
+  listed = length-fields 0 is ∙ whole-jumps g (a .bs) ∙ sym (head .jumps-are)
+
+  all-are : j ≤ length f → f₁ ≡ over (fieldsOf 0 is) f
+  all-are h = head .fields ∙ rw (all-fields g (a .bs)) (sets-over (fieldsOf 0 is) f (omega (arith, listed)))
+
+  pub inside : j ≤ length f → (k : ℕ) → k < j → getD f₁ k 0 + 4 ≤ page
+  inside h k m =
+      let at-k : getD f₁ k 0 ≡ getD (fieldsOf 0 is) k 0 = rw (all-are h) (List·getD-append (fieldsOf 0 is) (drop (length (fieldsOf 0 is)) f) 0 k (omega (arith, listed))) in
+      omega (arith, at-k, fields-inside 0 is k (omega (arith, listed)), sized, ends-inside)
+
+  -- What is written and filled is what the definition says.
+  pub accepts : {c₂ l₂ : List ℕ} → page ≤ 131072 → page ≡ length c → length c₁ ≡ length c → n < length l → j ≤ length f → j ≤ length t → Ended n e j c₁ c₂ l₁ l₂ f₁ t₁
+      → Translated (finish g n page w) c c₂ l l₂ f f₁ t t₁ (Accepted (e + 16) j)
+  accepts {c₂} {l₂} k m m₁ hl hf ht z =
+      let bs = a .bs in
+      let loc = placeOf (locations g bs) (exitOf g bs) in
+      let fits : size is ≤ page = omega (arith, sized, ends-inside) in
+      let o : finish g n page (done bs) ≡ yes (codeOf loc is) (locations g bs) (fieldsOf 0 is) (targetsOf is) = rw (le-leb _ _ fits, a .targets) in
+      let ll : length (locations g bs) ≡ n + 1 = length-locations g bs ∙ rw slots in
+      let nl : length (starts (size (prologue g)) bs) ≡ n = omega (arith, ll, length-append (starts (size (prologue g)) bs) (0 ∷ [])) in
+      let lt : length (targetsOf is) ≡ j = whole-jumps g bs ∙ sym (head .jumps-are) in
+      let ls : l₂ ≡ over (locations g bs) l = z .locations ∙ rw (head .locations) (set-sets l (starts (size (prologue g)) bs) n nl hl) in
+      let ts : t₁ ≡ over (targetsOf is) t = head .targets ∙ rw (all-targets g bs) (sets-over (targetsOf is) t (omega (arith, lt))) in
+      let tl : take (n + 1) l₂ ≡ locations g bs = rw ls (take-over (locations g bs) l (n + 1) ll) in
+      let tf : take j f₁ ≡ fieldsOf 0 is = rw (all-are hf) (take-over (fieldsOf 0 is) f j listed) in
+      let tg : take j t₁ ≡ targetsOf is = rw ts (take-over (targetsOf is) t j lt) in
+      let wr : Wrote c c₁ 0 e (blanks (prologue g ++ flat bs)) = rw (head .end-is) (head .code) in
+      let lb : length (codeOf loc is) ≡ size is = length-bytes loc 0 is in
+      let cs : c₂ ≡ over (codeOf loc is) c =
+      z .code
+      ∙ rw (tl, tf, tg, written g bs (head .end-is) (omega (arith, m, m₁, ends-inside)) wr, head .end-is)
+      (fill-all loc is [] (drop (size is) c) 0 refl (omega (arith, sized, ends-inside, k)) ∙ rw lb refl) in
+      rw (a .walk, o) (record { answer = rw (lb, sized, listed); code = cs; locations = ls; fields = all-are hf; targets = ts })
 
 -- once the sizes are good, the walk decides
-pub settled : (x : Inputs) {r : Sized} → Sizes (length (x .program)) (x .page) (x .locations) (x .fields) (x .targets) (x .ids) (length (x .addresses)) r
+pub settled : (x : Inputs) {r : Verdict} → Sizes (length (x .program)) (x .page) (x .locations) (x .fields) (x .targets) (x .ids) (length (x .addresses)) r
     → translationOf x ≡ begins r (finish (x .flags) (slotsOf (x .program)) (x .page) (walkOf x))
 unfolding translationOf
 settled x s = sizes-begin x (finish (x .flags) (slotsOf (x .program)) (x .page) (walkOf x)) ∙ rw (s .answer)
 
--- a walk that is measured to its end, and ends in the page, can be written
-pub fitting : (n page start : ℕ) (w : Walk) {e j : ℕ} {b : Bad} {c l f t : List ℕ} → Done e j b ≡ measuredIs n start w → e + 16 ≤ page → page ≡ length c
-    → n < length l → n < length f → n < length t → Fitting w page start c l f t n
-fitting n page start (refused r) q h m hl hf ht = let z : _≡_ {A = ℕ} 0 1 = cc in absurd (omega arith)
-fitting n page start (done bs) q h m hl hf ht =
-    record { fits = omega (arith, ap endOf q); page-is = m; locations = hl; fields = hf; targets = ht }
+-- an accepted walk can be written
+pub fitting : {n page start : ℕ} {w : Walk} {c l f t : List ℕ} → Acceptable n page start w → page ≡ length c → n < length l → n < length f → n < length t
+    → Fitting w page start c l f t n
+fitting a m hl hf ht = record { fits = rw (a .walk) (a .room); page-is = m; locations = hl; fields = hf; targets = ht }

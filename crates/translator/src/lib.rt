@@ -1,4 +1,2 @@
-// The translator: sizes, the measuring pass, the writing pass, the jumps; and the one function that a user calls.
-pub mod resolve;
-pub mod sizes;
+// The one function that a user calls, over the layers below: the verdict, the frame and the slots, the jumps.
 pub mod translate;

@@ -5,14 +5,14 @@ ghost use lib.ListN.{length, getD};
 ghost use Rattle.x86.specs.Code.{size};
 ghost use Rattle.jit.specs.Frame.{prologue};
 ghost use Rattle.jit.specs.Translation.{Inputs, rest, translationOf};
-ghost use Rattle.walk.specs.Writes.{Fitting};
+ghost use Rattle.writing.specs.Writes.{Fitting};
 ghost use Rattle.translator.specs.Translated.{Begun, Ended, Translated};
-use crate::sizes::Sized;
-use base::Slot;
-use jit::Bad;
 use jit::Flags;
 use jit::Refusal;
-use walk::measure::Measured;
+use judging::judge;
+use judging::sizes;
+use judging::verdict::Verdict;
+use slots::emission::Emission;
 
 pub enum Answer {
     Accepted { length: usize, jumps: usize },
@@ -43,14 +43,14 @@ fn write_begin(
     locations: &mut [u32],
     fields: &mut [u32],
     targets: &mut [u32],
-)
+) -> Emission
     requires { ⌜ (length (now prog) ≤ 16384) × ((page ≤ 131072) × ((start ≤ page) × (length (now ids) ≡ length (now addresses)))) ⌝ }
     requires { ⌜ Fitting (rest (suc (length (now prog) / 8)) (now prog) (now ids) (now addresses) page 0 start) page start (now code) (now locations) (now fields) (now targets) (length (now prog) / 8) ⌝ }
     requires { ⌜ (start ≡ size (prologue flags)) × ((start ≤ 49) × (4096 ≤ page)) ⌝ }
-    ensures { λ _. ⌜ Begun (rest (suc (length (now (prog .entry)) / 8)) (now (prog .entry)) (now (ids .entry)) (now (addresses .entry)) page 0 start) flags (now (code .entry)) (now (code .exit)) (now (locations .entry)) (now (locations .exit)) (now (fields .entry)) (now (fields .exit)) (now (targets .entry)) (now (targets .exit)) ⌝ }
+    ensures { λ r. ⌜ Begun (rest (suc (length (now (prog .entry)) / 8)) (now (prog .entry)) (now (ids .entry)) (now (addresses .entry)) page 0 start) flags (now (code .entry)) (now (code .exit)) (now (locations .entry)) (now (locations .exit)) (now (fields .entry)) (now (fields .exit)) (now (targets .entry)) (now (targets .exit)) (r .at .offset) (r .jumps) ⌝ }
 {
-    walk::frame::emit_prologue(code, fields, targets, flags);
-    walk::write::write_slots(
+    writing::frame::emit_prologue(code, fields, targets, flags);
+    writing::write::write_slots(
         prog,
         ids,
         addresses,
@@ -60,7 +60,7 @@ fn write_begin(
         locations,
         fields,
         targets,
-    );
+    )
 }
 
 // The epilogue at `end`, location n, and the fields.
@@ -77,9 +77,9 @@ fn write_end(
     requires { ⌜ ((k : ℕ) → k < jumps → getD (now fields) k 0 + 4 ≤ length (now code)) ⌝ }
     ensures { λ _. ⌜ Ended n end jumps (now (code .entry)) (now (code .exit)) (now (locations .entry)) (now (locations .exit)) (now (fields .entry)) (now (targets .entry)) ⌝ }
 {
-    walk::frame::emit_epilogue(code, end);
+    writing::frame::emit_epilogue(code, end);
     locations[n] = 0;
-    crate::resolve::resolve_jumps(code, locations, n, fields, targets, end as u32, jumps);
+    resolving::resolve::resolve_jumps(code, locations, n, fields, targets, end as u32, jumps);
 }
 
 // The answer and the contents at exit of what is lent are what `translationOf` gives on the contents at entry (specs/Translated.antt): accepted,
@@ -98,7 +98,7 @@ pub fn translate(
 {
     let page = code.len();
     let n = prog.len() / 8;
-    match crate::sizes::sizes(
+    match sizes::sizes(
         prog.len(),
         page,
         locations.len(),
@@ -107,19 +107,13 @@ pub fn translate(
         ids,
         addresses.len(),
     ) {
-        Sized::Not(refusal) => Answer::Refused(refusal),
-        Sized::Good => {
+        Verdict::Not(for_sizes) => Answer::Refused(for_sizes),
+        Verdict::Good => {
             let start = prologue_size(flags);
-            match walk::measure::measure(prog, ids, addresses, page, start) {
-                Measured::Refused(refusal) => Answer::Refused(refusal),
-                Measured::Done { end, jumps, bad } => {
-                    if page < end + 16 {
-                        return Answer::Refused(Refusal::NoRoom(Slot { number: n }));
-                    }
-                    if let Bad::At(slot) = bad {
-                        return Answer::Refused(Refusal::BadTarget(slot));
-                    }
-                    write_begin(
+            match judge::judge(prog, ids, addresses, page, start) {
+                Verdict::Not(for_slots) => Answer::Refused(for_slots),
+                Verdict::Good => {
+                    let e = write_begin(
                         prog,
                         flags,
                         ids,
@@ -131,10 +125,11 @@ pub fn translate(
                         fields,
                         targets,
                     );
-                    write_end(code, locations, fields, targets, n, end, jumps);
+                    let end = e.at.offset;
+                    write_end(code, locations, fields, targets, n, end, e.jumps);
                     Answer::Accepted {
                         length: end + 16,
-                        jumps: jumps,
+                        jumps: e.jumps,
                     }
                 }
             }

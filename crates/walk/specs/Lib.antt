@@ -1,4 +1,3 @@
 pub mod Steps
 pub mod Sofar
-pub mod Measures
-pub mod Writes
+pub mod Acceptable

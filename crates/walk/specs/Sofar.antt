@@ -1,22 +1,19 @@
 -- What holds at the head of both passes' loops: the blocks of a part are done, and what is left of the walk, joined to them, is the whole.
 -- Assumes nothing.
-use mathlib.Core.Path.{_≡_, _∙_, refl, ap, sym}
-use mathlib.Core.Bool.{Bool, true, false}
+use mathlib.Core.Path.{_≡_, _∙_, refl, sym}
 use mathlib.Core.List.{List, [], _∷_, _++_, append-nil, append-assoc}
 use Prim.Native.Nat.{ℕ, zero, suc, _+_, _*_, _/_, _<_, _≤_}
 use native.Mathlib.Omega.{arith}
 use native.Mathlib.Nat.{add-zero, zero-add, add-assoc}
-use lib.Dec.{leb, ltb}
+use lib.Dec.{leb}
 use lib.ListN.{length, length-append}
 use borrow.Author.Tests.{lt-ltb, le-ltb, le-leb, lt-leb}
-use Rattle.base.specs.Pick.{pick}
-use Rattle.base.specs.declared.Slot.{Slot}
 use Rattle.jit.specs.declared.Refusal.{Refusal}
 use Rattle.jit.specs.declared.Bad.{Bad}
 use Rattle.jit.specs.declared.Bad.the-variants.{Nowhere, At}
-use Rattle.x86.specs.Code.{size, size-append, blanks, targetsOf, targets-append, fieldsOf}
-use Rattle.jit.specs.Translation.{at, Block, Step, stop, go, stepAt, Walk, refused, done, joined, slotsWide, within, after, rest, flat, entries, starts, orElse, badIn, firstBad}
-use Rattle.jit.specs.Bounds.{Sound, Fine, step-fine, slotsIn}
+use Rattle.x86.specs.Code.{size, size-append, targetsOf, targets-append}
+use Rattle.jit.specs.Translation.{at, Block, stop, go, stepAt, Walk, refused, done, joined, slotsWide, within, after, rest, flat, entries, starts, orElse, badIn, firstBad}
+use Rattle.jit.specs.Bounds.{Sound, step-fine, slotsIn, wide-some}
 
 -- one block behind others
 pub flat-snoc : (bs : List Block) (b : Block) → flat (bs ++ (b ∷ [])) ≡ flat bs ++ b .code
@@ -56,10 +53,6 @@ joined-joined rs bs (done cs) = simp append-assoc
 joined-none : (w : Walk) → w ≡ joined [] w
 joined-none (refused r) = refl
 joined-none (done bs) = refl
-
-pub wide-some : (w : Bool) → (1 ≤ slotsWide w) × (slotsWide w ≤ 2)
-wide-some true = omega arith
-wide-some false = omega arith
 
 pub record Sofar (program ids addresses : List ℕ) (page start : ℕ) (w : Walk) (bs : List Block) (slot place : ℕ) : Type 0 where
   pub fuel : ℕ

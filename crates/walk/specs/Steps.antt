@@ -1,28 +1,18 @@
 -- A slot that is read and judged: what the code answers against what the definition says.
 -- Assumes nothing.
-use mathlib.Core.Path.{_≡_, _∙_, refl, ap, sym}
-use mathlib.Core.Bool.{Bool, true, false, _&&_}
-use mathlib.Core.List.{List, [], _∷_}
-use Prim.Native.Nat.{ℕ, suc, _+_, _<_, _≤_, _^_}
-use native.Mathlib.Omega.{arith}
+use mathlib.Core.Path.{_≡_}
+use mathlib.Core.List.{List}
+use Prim.Native.Nat.{ℕ, _+_, _<_, _≤_, _^_}
 use native.Mathlib.Numerals.{add-one}
-use lib.Dec.{leb, eqb}
 use lib.ListN.{length, getD, drop, drop-of-length-le}
 use lib.Seq.{drop-cons}
-use borrow.Author.Tests.{eq-eqb, ne-eqb, le-leb, lt-leb}
+use borrow.Author.Tests.{eq-eqb, ne-eqb}
 use Rattle.base.specs.Pick.{pick}
-use Rattle.ebpf.specs.Insn.{readAt}
-use Rattle.ebpf.specs.Opcode.{kindOf}
 use Rattle.ebpf.specs.Kinds.{numbers}
 use Rattle.ebpf.specs.declared.insn.Insn.{Insn}
-use Rattle.ebpf.specs.declared.insn.Read.{Read}
-use Rattle.ebpf.specs.declared.insn.Read.the-variants.{Whole, Torn}
-use Rattle.ebpf.specs.declared.kind.Kind.{Kind}
-use Rattle.ebpf.specs.declared.kind.Lookup.{Lookup}
-use Rattle.jit.specs.declared.Helper.{Helper}
 use Rattle.jit.specs.declared.Helper.the-variants.{Address, Missing}
 use Rattle.jit.specs.declared.Refusal.{Refusal}
-use Rattle.jit.specs.Translation.{at, found, helperOf, swapBits, Operand, lacks, has, Step, stop, go, blockOf, operandOf, taken, known, goodRegisters, stepRead, stepAt}
+use Rattle.jit.specs.Translation.{at, helperOf, swapBits, Operand, lacks, has, Step, stop, go, blockOf, stepAt}
 use Rattle.walk.specs.declared.step.Operand as code
 use Rattle.walk.specs.declared.step.Operand.the-variants.{Lacks, Has}
 use Rattle.walk.specs.declared.step.Stepped.{Stepped}

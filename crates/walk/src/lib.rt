@@ -1,5 +1,2 @@
-// The two walks over the slots: every slot read and judged, the measuring pass, the writing pass, and the frame round the slots.
-pub mod frame;
-pub mod measure;
+// What both passes over the slots share: one slot, read and judged (src/step.rt), and what holds between two slots (specs/Sofar.antt).
 pub mod step;
-pub mod write;

@@ -42,7 +42,7 @@ pub fn helper_of(ids: &[u32], addresses: &[u64], id: u32) -> Helper
     Helper::Missing
 }
 
-fn swap_bits(bits: u32) -> bool
+pub fn swap_bits(bits: u32) -> bool
     ensures { λ r. ⌜ r ≡ swapBits bits ⌝ }
 {
     if bits == 16 {
@@ -55,7 +55,7 @@ fn swap_bits(bits: u32) -> bool
 }
 
 // A wide load's constant: its own immediate below the next slot's.
-fn wide_operand(prog: &[u8], slot: Slot, i: Insn) -> Operand
+pub fn wide_operand(prog: &[u8], slot: Slot, i: Insn) -> Operand
     requires { ⌜ slot .number < 2 ^ 40 ⌝ }
     ensures { λ r. ⌜ operandIs r ≡ wideValue (slot .number) i (readAt (now (prog .entry)) (slot .number + 1)) ⌝ }
 {
@@ -68,7 +68,7 @@ fn wide_operand(prog: &[u8], slot: Slot, i: Insn) -> Operand
     Operand::Has(i.imm as u64 + 0x1_0000_0000 * (second.imm as u64))
 }
 
-fn call_operand(ids: &[u32], addresses: &[u64], slot: Slot, i: Insn) -> Operand
+pub fn call_operand(ids: &[u32], addresses: &[u64], slot: Slot, i: Insn) -> Operand
     requires { ⌜ length (now ids) ≡ length (now addresses) ⌝ }
     ensures { λ r. ⌜ operandIs r ≡ callValue (now (ids .entry)) (now (addresses .entry)) (slot .number) i ⌝ }
 {

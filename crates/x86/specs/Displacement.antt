@@ -3,14 +3,14 @@
 -- Assumes nothing.
 use mathlib.Core.Path.{_≡_, refl, ap}
 use mathlib.Core.Bool.{Bool, true, false}
-use Prim.Native.Nat.{ℕ, suc, _+_, _-_, _%_, _^_, _≤_, _<_}
+use Prim.Native.Nat.{ℕ, _+_, _-_, _%_, _^_, _≤_, _<_}
 use native.Mathlib.Omega.{arith}
 use lib.Dec.{ltb}
 use lib.IntN.{negsuc, subℕ}
 use mir.Syntax.{w32}
 use mir.Val.{toZ}
 use borrow.Author.Tests.{lt-ltb, le-ltb, ltb-true, ltb-false}
-use Rattle.x86.specs.Code.{Dest, to, field}
+use Rattle.x86.specs.Code.{to, field}
 
 -- subℕ a b is the integer a - b
 pub displacement : (loc : ℕ → ℕ) (end t : ℕ) → loc t < 2 ^ 31 → end < 2 ^ 31 → toZ w32 (field loc end (to t)) ≡ subℕ (loc t) end

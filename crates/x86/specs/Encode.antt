@@ -2,10 +2,10 @@
 -- (section 2.1); REX 0100WRXB (section 2.2.1), written where one of its bits is set, and always by a store of one byte; ModRM's
 -- mod, reg and r/m (section 2.1.5, table 2-2).
 -- Assumes nothing.
-use mathlib.Core.Bool.{Bool, true, false, not, _&&_}
+use mathlib.Core.Bool.{Bool, not, _&&_}
 use mathlib.Core.List.{List, [], _∷_, _++_}
 use Prim.Native.Nat.{ℕ, _+_, _*_, _/_, _%_, _^_}
-use lib.Dec.{leb, ltb, eqb}
+use lib.Dec.{ltb, eqb}
 use lib.ListN.{length}
 use Rattle.base.specs.Pick.{pick}
 use Rattle.base.specs.Bytes.{le16, le32, le64}

@@ -1,6 +1,5 @@
 -- How long each instruction can get: the bounds behind the largest code size.
 -- Assumes nothing.
-use mathlib.Core.Path.{_≡_, refl}
 use mathlib.Core.Bool.{Bool, true, false}
 use mathlib.Core.List.{List, [], _∷_, _++_}
 use Prim.Native.Nat.{ℕ, _+_, _%_, _≤_}
@@ -8,12 +7,11 @@ use native.Mathlib.Omega.{arith}
 use lib.ListN.{length, length-append}
 use Rattle.base.specs.Pick.{pick}
 use Rattle.base.specs.Bytes.{le32}
-use Rattle.base.specs.declared.Width.{Width}
 use Rattle.base.specs.declared.Size.{Size}
 use Rattle.base.specs.declared.Size.the-variants.{S8, S16, S32, S64}
 use lib.Dec.{eqb}
 use Rattle.x86.specs.Instr.{Plain, push, pop, alu, aluImm, shiftImm, shiftCl, unary, movabs, rol16, bswap, load, store, storeImm, Jump, jmp, call, jcc}
-use Rattle.x86.specs.Encode.{rex, rexBits, memory, modrm, bare, short, encodePlain, loadOpcode, prefix66, storeRex, storeOpcode, storeImmOpcode, immBytes, wide, wideSize, jumpOpcode}
+use Rattle.x86.specs.Encode.{rex, rexBits, memory, modrm, bare, short, encodePlain, loadOpcode, prefix66, storeOpcode, storeImmOpcode, immBytes, wide, wideSize, jumpOpcode}
 
 -- the longest of each form
 abbrev pub most : Plain → ℕ

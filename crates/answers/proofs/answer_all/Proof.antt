@@ -5,9 +5,6 @@ use lib.ListN.{length}
 use borrow.Author.Needs.{needs}
 use Rattle.answers.proofs.answer_all.Statement.{statement}
 use Rattle.answers.proofs.answer_all.Tie as tie
-use Rattle.answers.proofs.answer_all.Reads as reads
-use Rattle.answers.proofs.answer_all.Lts as lts
-use Rattle.answers.proofs.answer_next.Reads as answer-next-reads
 
 abbrev Inv-loop : tie.InvT-loop
 Inv-loop input₀ output₀ ids₀ addresses₀ code₀ locations₀ fields₀ targets₀ start₀ end₀ at₀ index₀ input output ids addresses code locations fields targets start end at index =

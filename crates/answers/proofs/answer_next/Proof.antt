@@ -1,17 +1,7 @@
 use native.Mathlib.Omega.{arith}
-use lib.ListN.{length-drop}
 use borrow.Author.Needs.{needs}
 use Rattle.answers.proofs.answer_next.Statement.{statement}
 use Rattle.answers.proofs.answer_next.Tie as tie
-use Rattle.answers.proofs.answer_next.Reads as reads
-use Rattle.answers.proofs.answer_next.Lts as lts
-use Rattle.answers.proofs.flushed.Reads as flushed-reads
-use Rattle.answers.proofs.last.Reads as last-reads
-use Rattle.answers.proofs.made_room.Reads as made-room-reads
-use Rattle.answers.proofs.say_why.Reads as say-why-reads
-use Rattle.cases.proofs.problem.is_nothing.Reads as is-nothing-reads
-use Rattle.cases.proofs.run.run_next.Reads as run-next-reads
-use Rattle.cases.proofs.stream.is_at_hand.Reads as is-at-hand-reads
 
 -- src/main.rt:86:41
 is-at-hand-requires : tie.Need-is-at-hand-requires

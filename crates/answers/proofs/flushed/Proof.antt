@@ -2,9 +2,6 @@ use lib.Seq.{length-take-le}
 use borrow.Author.Needs.{needs}
 use Rattle.answers.proofs.flushed.Statement.{statement}
 use Rattle.answers.proofs.flushed.Tie as tie
-use Rattle.answers.proofs.flushed.Reads as reads
-use Rattle.answers.proofs.flushed.Lts as lts
-use Rattle.io.proofs.write_all.Reads as write-all-reads
 
 -- src/main.rt:27:37
 slice-aggregate-write-all : tie.Need-slice-aggregate-write-all

@@ -5,10 +5,6 @@ use borrow.Author.Needs.{needs}
 use native.Mathlib.Omega.{arith}
 use Rattle.corpus.proofs.replay.Statement.{statement}
 use Rattle.corpus.proofs.replay.Tie as tie
-use Rattle.corpus.proofs.replay.Reads as reads
-use Rattle.corpus.proofs.replay.Lts as lts
-use Rattle.corpus.proofs.counted.Reads as counted-reads
-use Rattle.corpus.proofs.replay_next.Reads as replay-next-reads
 
 abbrev Inv-loop : tie.InvT-loop
 Inv-loop cases answers input₀ stored₀ ids₀ addresses₀ code₀ locations₀ fields₀ targets₀ out₀ start₀ end-of-input₀ from₀ to₀ tally₀ index₀ input stored ids addresses code locations fields targets out start end-of-input from to tally index =

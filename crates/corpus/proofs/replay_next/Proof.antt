@@ -1,16 +1,7 @@
-use native.Mathlib.Omega.{arith}
 use lib.Seq.{length-take-le}
 use borrow.Author.Needs.{needs}
 use Rattle.corpus.proofs.replay_next.Statement.{statement}
 use Rattle.corpus.proofs.replay_next.Tie as tie
-use Rattle.corpus.proofs.replay_next.Reads as reads
-use Rattle.corpus.proofs.replay_next.Lts as lts
-use Rattle.cases.proofs.problem.is_nothing.Reads as is-nothing-reads
-use Rattle.cases.proofs.problem.report.Reads as report-reads
-use Rattle.cases.proofs.run.run_next.Reads as run-next-reads
-use Rattle.corpus.proofs.compare_next.Reads as compare-next-reads
-use Rattle.corpus.proofs.end.Reads as end-reads
-use Rattle.corpus.proofs.last.Reads as last-reads
 
 -- src/main.rt:100:9
 run-next-requires : tie.Need-run-next-requires

@@ -2,11 +2,6 @@ use lib.Seq.{length-take-le}
 use borrow.Author.Needs.{needs}
 use Rattle.translate.proofs.main.Statement.{statement}
 use Rattle.translate.proofs.main.Tie as tie
-use Rattle.translate.proofs.main.Reads as reads
-use Rattle.translate.proofs.main.Lts as lts
-use Rattle.cases.proofs.stream.fill.Reads as fill-reads
-use Rattle.os.proofs.fail.Reads as fail-reads
-use Rattle.translate.proofs.answer.Reads as answer-reads
 
 -- src/main.rt:52:43
 slice-aggregate-fill : tie.Need-slice-aggregate-fill

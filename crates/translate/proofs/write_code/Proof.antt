@@ -2,10 +2,6 @@ use lib.Seq.{length-take-le}
 use borrow.Author.Needs.{needs}
 use Rattle.translate.proofs.write_code.Statement.{statement}
 use Rattle.translate.proofs.write_code.Tie as tie
-use Rattle.translate.proofs.write_code.Reads as reads
-use Rattle.translate.proofs.write_code.Lts as lts
-use Rattle.io.proofs.write_all.Reads as write-all-reads
-use Rattle.os.proofs.fail.Reads as fail-reads
 
 -- src/main.rt:25:38
 slice-aggregate-write-all : tie.Need-slice-aggregate-write-all

@@ -1,21 +1,19 @@
-use borrow.Author.Tests.{lt-ltb, le-ltb}
+use Rattle.ebpf.specs.Insn.{extended}
 use borrow.Author.Needs.{needs}
 use Rattle.ebpf.proofs.insn.extended.Statement.{statement}
 use Rattle.ebpf.proofs.insn.extended.Tie as tie
-use Rattle.ebpf.proofs.insn.extended.Reads as reads
-use Rattle.ebpf.proofs.insn.extended.Lts as lts
 
--- src/insn.rt:37:9
+-- src/insn.rt:58:33
+add-wrapping-sub-u32 : tie.Need-add-wrapping-sub-u32
+add-wrapping-sub-u32 c = search needs
+
+-- src/insn.rt:58:5
+wrapping-sub-u32-requires : tie.Need-wrapping-sub-u32-requires
+wrapping-sub-u32-requires c κs = search needs
+
+-- src/insn.rt:54:1
 returns : tie.Need-returns
-returns c = simp (lt-ltb _ _ (c .if1 .taken))
-
--- src/insn.rt:39:5
-add-result : tie.Need-add-result
-add-result c = search needs
-
--- src/insn.rt:32:1
-returns-2 : tie.Need-returns-2
-returns-2 c = simp (le-ltb _ _ (c .if1 .left))
+returns c = extended (c .before .args .x) _ (c .before .pre) (search needs) (c .wrapping-sub-u32 .ensures)
 
 pub extended-spec : {M : Type 1} → statement M
-extended-spec = tie.close (tie.spec returns add-result returns-2)
+extended-spec = tie.close (tie.spec add-wrapping-sub-u32 wrapping-sub-u32-requires returns)

@@ -2,8 +2,6 @@ use Rattle.ebpf.specs.Kinds.{alus}
 use Rattle.base.specs.Cases.{rest}
 use Rattle.ebpf.proofs.kind.alu_of.Statement.{statement}
 use Rattle.ebpf.proofs.kind.alu_of.Tie as tie
-use Rattle.ebpf.proofs.kind.alu_of.Reads as reads
-use Rattle.ebpf.proofs.kind.alu_of.Lts as lts
 
 -- src/kind.rt:126:1
 returns : tie.Need-returns

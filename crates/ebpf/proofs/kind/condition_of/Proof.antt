@@ -2,8 +2,6 @@ use Rattle.ebpf.specs.Kinds.{conditions}
 use Rattle.base.specs.Cases.{rest}
 use Rattle.ebpf.proofs.kind.condition_of.Statement.{statement}
 use Rattle.ebpf.proofs.kind.condition_of.Tie as tie
-use Rattle.ebpf.proofs.kind.condition_of.Reads as reads
-use Rattle.ebpf.proofs.kind.condition_of.Lts as lts
 
 -- src/kind.rt:158:1
 returns : tie.Need-returns

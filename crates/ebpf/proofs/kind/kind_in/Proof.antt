@@ -3,21 +3,18 @@ use mathlib.Core.Path.{_∙_}
 use borrow.Author.Needs.{needs}
 use Rattle.ebpf.proofs.kind.kind_in.Statement.{statement}
 use Rattle.ebpf.proofs.kind.kind_in.Tie as tie
-use Rattle.ebpf.proofs.kind.kind_in.Reads as reads
-use Rattle.ebpf.proofs.kind.kind_in.Lts as lts
-use Rattle.ebpf.proofs.kind.kind_numbered.Reads as kind-numbered-reads
 
--- src/kind.rt:209:24
-element-copy-out-kind-numbered : tie.Need-element-copy-out-kind-numbered
-element-copy-out-kind-numbered c = search needs
+-- src/kind.rt:458:24
+number-in-requires : tie.Need-number-in-requires
+number-in-requires c κs = search needs
 
--- src/kind.rt:209:5
+-- src/kind.rt:458:5
 kind-numbered-requires : tie.Need-kind-numbered-requires
 kind-numbered-requires c κs = search needs
 
--- src/kind.rt:205:1
+-- src/kind.rt:454:1
 returns : tie.Need-returns
-returns c = c .kind-numbered .ensures ∙ rw (c .before .before .pre) (entry _ (search needs))
+returns c = c .kind-numbered .ensures ∙ rw (c .before .number-in .ensures) (entry _ (search needs))
 
 pub kind-in-spec : {M : Type 1} → statement M
-kind-in-spec = tie.close (tie.spec element-copy-out-kind-numbered kind-numbered-requires returns)
+kind-in-spec = tie.close (tie.spec number-in-requires kind-numbered-requires returns)

@@ -3,15 +3,6 @@ use Rattle.ebpf.specs.Kinds.{kinds}
 use borrow.Author.Needs.{needs}
 use Rattle.ebpf.proofs.kind.kind_numbered.Statement.{statement}
 use Rattle.ebpf.proofs.kind.kind_numbered.Tie as tie
-use Rattle.ebpf.proofs.kind.kind_numbered.Reads as reads
-use Rattle.ebpf.proofs.kind.kind_numbered.Lts as lts
-use Rattle.ebpf.proofs.kind.alu_of.Reads as alu-of-reads
-use Rattle.ebpf.proofs.kind.condition_of.Reads as condition-of-reads
-use Rattle.ebpf.proofs.kind.mul_of.Reads as mul-of-reads
-use Rattle.ebpf.proofs.kind.shift_of.Reads as shift-of-reads
-use Rattle.ebpf.proofs.kind.size_of.Reads as size-of-reads
-use Rattle.ebpf.proofs.kind.source_of.Reads as source-of-reads
-use Rattle.ebpf.proofs.kind.width_of.Reads as width-of-reads
 
 -- src/kind.rt:182:40
 size-of-requires : tie.Need-size-of-requires

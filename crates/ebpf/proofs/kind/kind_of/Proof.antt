@@ -4,9 +4,6 @@ use Rattle.ebpf.specs.Kinds.{numbers}
 use borrow.Author.Needs.{needs}
 use Rattle.ebpf.proofs.kind.kind_of.Statement.{statement}
 use Rattle.ebpf.proofs.kind.kind_of.Tie as tie
-use Rattle.ebpf.proofs.kind.kind_of.Reads as reads
-use Rattle.ebpf.proofs.kind.kind_of.Lts as lts
-use Rattle.ebpf.proofs.kind.kind_in.Reads as kind-in-reads
 
 -- src/kind.rt:456:5
 kind-in-requires : tie.Need-kind-in-requires

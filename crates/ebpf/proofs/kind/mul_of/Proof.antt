@@ -2,8 +2,6 @@ use Rattle.ebpf.specs.Kinds.{muls}
 use Rattle.base.specs.Cases.{rest}
 use Rattle.ebpf.proofs.kind.mul_of.Statement.{statement}
 use Rattle.ebpf.proofs.kind.mul_of.Tie as tie
-use Rattle.ebpf.proofs.kind.mul_of.Reads as reads
-use Rattle.ebpf.proofs.kind.mul_of.Lts as lts
 
 -- src/kind.rt:148:1
 returns : tie.Need-returns

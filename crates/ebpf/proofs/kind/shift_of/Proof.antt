@@ -2,8 +2,6 @@ use Rattle.ebpf.specs.Kinds.{shifts}
 use Rattle.base.specs.Cases.{rest}
 use Rattle.ebpf.proofs.kind.shift_of.Statement.{statement}
 use Rattle.ebpf.proofs.kind.shift_of.Tie as tie
-use Rattle.ebpf.proofs.kind.shift_of.Reads as reads
-use Rattle.ebpf.proofs.kind.shift_of.Lts as lts
 
 -- src/kind.rt:138:1
 returns : tie.Need-returns

@@ -2,8 +2,6 @@ use Rattle.ebpf.specs.Opcode.{sizes}
 use Rattle.base.specs.Cases.{rest}
 use Rattle.ebpf.proofs.kind.size_of.Statement.{statement}
 use Rattle.ebpf.proofs.kind.size_of.Tie as tie
-use Rattle.ebpf.proofs.kind.size_of.Reads as reads
-use Rattle.ebpf.proofs.kind.size_of.Lts as lts
 
 -- src/kind.rt:96:1
 returns : tie.Need-returns

@@ -2,8 +2,6 @@ use Rattle.ebpf.specs.Opcode.{sources}
 use Rattle.base.specs.Cases.{rest}
 use Rattle.ebpf.proofs.kind.source_of.Statement.{statement}
 use Rattle.ebpf.proofs.kind.source_of.Tie as tie
-use Rattle.ebpf.proofs.kind.source_of.Reads as reads
-use Rattle.ebpf.proofs.kind.source_of.Lts as lts
 
 -- src/kind.rt:117:1
 returns : tie.Need-returns

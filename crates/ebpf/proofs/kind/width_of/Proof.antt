@@ -2,8 +2,6 @@ use Rattle.ebpf.specs.Kinds.{widths}
 use Rattle.base.specs.Cases.{rest}
 use Rattle.ebpf.proofs.kind.width_of.Statement.{statement}
 use Rattle.ebpf.proofs.kind.width_of.Tie as tie
-use Rattle.ebpf.proofs.kind.width_of.Reads as reads
-use Rattle.ebpf.proofs.kind.width_of.Lts as lts
 
 -- src/kind.rt:107:1
 returns : tie.Need-returns

@@ -1,9 +1,6 @@
 use lib.Dec.{lit<}
-use Prim.Native.Nat.{ℕ}
-use mathlib.Core.List.{List, _∷_}
-use mathlib.Core.Path.{refl, ap}
-use Rattle.emit.specs.Words.{rexed, coded-byte, pair}
-use Rattle.emit.specs.Wrote.{same, then}
+use Rattle.emit.specs.Words.{rexed, pair}
+use Rattle.emit.specs.Wrote.{same}
 use borrow.Author.Needs.{needs}
 use Rattle.emit.proofs.alu.emit_bswap.Statement.{statement}
 use Rattle.emit.proofs.alu.emit_bswap.Tie as tie

@@ -2,7 +2,7 @@ use lib.Dec.{lit<}
 use Prim.Native.Nat.{ℕ}
 use mathlib.Core.List.{List, _∷_}
 use mathlib.Core.Path.{refl, ap}
-use Rattle.emit.specs.Words.{rexed, coded-byte, pair}
+use Rattle.emit.specs.Words.{rexed, coded-byte}
 use Rattle.emit.specs.Wrote.{same, then}
 use borrow.Author.Needs.{needs}
 use Rattle.emit.proofs.alu.emit_rol16.Statement.{statement}

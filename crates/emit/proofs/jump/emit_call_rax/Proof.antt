@@ -1,6 +1,5 @@
 use Rattle.x86.specs.Encode.{rex, modrm}
 use mathlib.Core.Path.{refl}
-use Rattle.base.specs.Bytes.{bytes-cons}
 use Rattle.emit.specs.Wrote.{same}
 use borrow.Author.Needs.{needs}
 use Rattle.emit.proofs.jump.emit_call_rax.Statement.{statement}

@@ -1,6 +1,5 @@
 use mathlib.Core.Path.{refl}
 use Rattle.emit.specs.Words.{coded-then}
-use Rattle.base.specs.Bytes.{bytes-cons}
 use Rattle.emit.specs.Wrote.{same}
 use borrow.Author.Needs.{needs}
 use Rattle.emit.proofs.jump.emit_jcc.Statement.{statement}

@@ -1,7 +1,7 @@
 use lib.Dec.{lit<}
 use mathlib.Core.Path.{refl}
 use Rattle.emit.specs.Words.{rexed, opcode1, opcode2}
-use Rattle.emit.specs.Wrote.{same, then}
+use Rattle.emit.specs.Wrote.{same}
 use borrow.Author.Needs.{needs}
 use Rattle.emit.proofs.memory.emit_load.Statement.{statement}
 use Rattle.emit.proofs.memory.emit_load.Tie as tie

@@ -1,6 +1,5 @@
 use mathlib.Core.Path.{_∙_}
 use Rattle.emit.specs.Words.{store-rex}
-use native.Mathlib.Nat.{zero-add}
 use lib.Dec.{lit<}
 use mathlib.Core.Path.{refl, ap}
 use mathlib.Core.List.{List, _∷_}

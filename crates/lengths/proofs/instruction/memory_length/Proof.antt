@@ -1,5 +1,5 @@
 use Rattle.lengths.specs.Lengths.{memory-bare, memory-short, memory-long}
-use mathlib.Core.Path.{refl, sym, _∙_}
+use mathlib.Core.Path.{sym, _∙_}
 use native.Mathlib.Omega.{arith}
 use borrow.Author.Needs.{needs}
 use Rattle.lengths.proofs.instruction.memory_length.Statement.{statement}

@@ -1,5 +1,4 @@
 use Rattle.lengths.specs.Lengths.{zero-mul, zero-div}
-use native.Mathlib.Omega.{arith}
 use borrow.Author.Needs.{needs}
 use Rattle.lengths.proofs.slot.by_zero_length.Statement.{statement}
 use Rattle.lengths.proofs.slot.by_zero_length.Tie as tie

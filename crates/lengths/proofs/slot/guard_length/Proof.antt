@@ -1,5 +1,5 @@
 use Rattle.lengths.specs.Lengths.{guard-div, guard-mod}
-use mathlib.Core.Path.{refl, sym, _∙_}
+use mathlib.Core.Path.{refl}
 use native.Mathlib.Omega.{arith}
 use borrow.Author.Needs.{needs}
 use Rattle.lengths.proofs.slot.guard_length.Statement.{statement}

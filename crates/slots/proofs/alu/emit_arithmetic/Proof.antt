@@ -1,6 +1,5 @@
 use Rattle.slots.specs.Codes.{alu-imm}
-use native.Mathlib.Omega.{arith}
-use Rattle.emit.specs.Wrote.{same, then, last}
+use Rattle.emit.specs.Wrote.{last}
 use borrow.Author.Needs.{needs}
 use Rattle.slots.proofs.alu.emit_arithmetic.Statement.{statement}
 use Rattle.slots.proofs.alu.emit_arithmetic.Tie as tie

@@ -1,5 +1,5 @@
 use native.Mathlib.Omega.{arith}
-use Rattle.emit.specs.Wrote.{same, then, last}
+use Rattle.emit.specs.Wrote.{then, last}
 use borrow.Author.Needs.{needs}
 use Rattle.slots.proofs.alu.emit_shift.Statement.{statement}
 use Rattle.slots.proofs.alu.emit_shift.Tie as tie

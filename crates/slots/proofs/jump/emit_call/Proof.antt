@@ -1,12 +1,7 @@
 use Rattle.jit.specs.Slots.{helperCall}
-use Rattle.x86.specs.Code.{to, blanks-append, length-blanks, size-append}
-use Rattle.x86.specs.Instr.{op, jmp, jcc, call, jump}
-use mathlib.Core.List.{[], _∷_, _++_}
-use Rattle.slots.specs.Emits.{jumped, plainly, emits-then}
+use Rattle.slots.specs.Emits.{plainly}
 use borrow.Author.Tests.{eq-eqb, ne-eqb}
 use mathlib.Core.Path.{refl}
-use native.Mathlib.Omega.{arith}
-use Rattle.emit.specs.Wrote.{same, then, last, nothing}
 use borrow.Author.Needs.{needs}
 use Rattle.slots.proofs.jump.emit_call.Statement.{statement}
 use Rattle.slots.proofs.jump.emit_call.Tie as tie

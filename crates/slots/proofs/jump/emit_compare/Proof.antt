@@ -1,8 +1,4 @@
 use Rattle.slots.specs.Codes.{test-is}
-use borrow.Author.Tests.{eq-eqb, ne-eqb}
-use mathlib.Core.Path.{refl}
-use native.Mathlib.Omega.{arith}
-use Rattle.emit.specs.Wrote.{same, then, last, nothing}
 use borrow.Author.Needs.{needs}
 use Rattle.slots.proofs.jump.emit_compare.Statement.{statement}
 use Rattle.slots.proofs.jump.emit_compare.Tie as tie

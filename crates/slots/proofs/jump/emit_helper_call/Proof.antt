@@ -1,6 +1,4 @@
-use mathlib.Core.Path.{refl}
-use native.Mathlib.Omega.{arith}
-use Rattle.emit.specs.Wrote.{same, then, last, nothing}
+use Rattle.emit.specs.Wrote.{then, last}
 use borrow.Author.Needs.{needs}
 use Rattle.slots.proofs.jump.emit_helper_call.Statement.{statement}
 use Rattle.slots.proofs.jump.emit_helper_call.Tie as tie

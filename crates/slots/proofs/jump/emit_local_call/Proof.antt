@@ -1,12 +1,11 @@
 use Rattle.slots.specs.Codes.{callSaves, callRestores}
-use Rattle.x86.specs.Code.{to, blanks-append, length-blanks, size-append}
-use Rattle.x86.specs.Instr.{op, jmp, jcc, call, jump}
+use Rattle.x86.specs.Code.{to, blanks-append, length-blanks}
+use Rattle.x86.specs.Instr.{call, jump}
 use mathlib.Core.List.{[], _∷_, _++_}
 use Rattle.slots.specs.Emits.{jumped, plainly, emits-then}
-use borrow.Author.Tests.{eq-eqb, ne-eqb}
 use mathlib.Core.Path.{refl}
 use native.Mathlib.Omega.{arith}
-use Rattle.emit.specs.Wrote.{same, then, last, nothing}
+use Rattle.emit.specs.Wrote.{then, last}
 use borrow.Author.Needs.{needs}
 use Rattle.slots.proofs.jump.emit_local_call.Statement.{statement}
 use Rattle.slots.proofs.jump.emit_local_call.Tie as tie

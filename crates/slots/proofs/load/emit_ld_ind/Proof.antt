@@ -1,5 +1,5 @@
 use native.Mathlib.Omega.{arith}
-use Rattle.emit.specs.Wrote.{same, then, last}
+use Rattle.emit.specs.Wrote.{then, last}
 use borrow.Author.Needs.{needs}
 use Rattle.slots.proofs.load.emit_ld_ind.Statement.{statement}
 use Rattle.slots.proofs.load.emit_ld_ind.Tie as tie

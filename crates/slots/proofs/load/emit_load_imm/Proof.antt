@@ -1,6 +1,4 @@
 use Rattle.slots.specs.Codes.{load-short, load-long}
-use native.Mathlib.Omega.{arith}
-use Rattle.emit.specs.Wrote.{same, then, last}
 use borrow.Author.Needs.{needs}
 use Rattle.slots.proofs.load.emit_load_imm.Statement.{statement}
 use Rattle.slots.proofs.load.emit_load_imm.Tie as tie

@@ -1,6 +1,5 @@
 use Rattle.slots.specs.Codes.{trimmed}
-use native.Mathlib.Omega.{arith}
-use Rattle.emit.specs.Wrote.{same, then, last}
+use Rattle.emit.specs.Wrote.{same, last}
 use borrow.Author.Needs.{needs}
 use Rattle.slots.proofs.load.emit_st_imm.Statement.{statement}
 use Rattle.slots.proofs.load.emit_st_imm.Tie as tie

@@ -1,6 +1,4 @@
-use borrow.Author.Tests.{eq-eqb, ne-eqb}
-use native.Mathlib.Omega.{arith}
-use Rattle.emit.specs.Wrote.{same, then, last, nothing}
+use Rattle.emit.specs.Wrote.{last, nothing}
 use borrow.Author.Needs.{needs}
 use Rattle.slots.proofs.muldivmod.emit_by_zero.Statement.{statement}
 use Rattle.slots.proofs.muldivmod.emit_by_zero.Tie as tie

@@ -1,15 +1,14 @@
 use mathlib.Core.List.{_++_}
-use Rattle.slots.specs.Emits.{jumped, plainly, emits-then}
-use Rattle.base.specs.declared.Width.the-variants.{W32, W64}
-use Rattle.x86.specs.Instr.{op, alu, jump, jmp, jcc, XOR, MOV, JE, JNE}
+use Rattle.slots.specs.Emits.{jumped}
+use Rattle.base.specs.declared.Width.the-variants.{W32}
+use Rattle.x86.specs.Instr.{op, alu, jump, jmp, jcc, XOR, JNE}
 use Prim.Native.Nat.{_+_}
 use mathlib.Core.List.{[], _∷_}
-use Rattle.jit.specs.MulDivMod.{saves, operated, tested, guard, divByZero}
-use Rattle.x86.specs.Code.{near, to, blanks-append, size, size-append, length-blanks}
+use Rattle.jit.specs.MulDivMod.{tested, divByZero}
+use Rattle.x86.specs.Code.{near, to, blanks-append, size, length-blanks}
 use mathlib.Core.Path.{refl}
-use borrow.Author.Tests.{eq-eqb, ne-eqb}
 use native.Mathlib.Omega.{arith}
-use Rattle.emit.specs.Wrote.{same, then, last, nothing}
+use Rattle.emit.specs.Wrote.{then, last}
 use borrow.Author.Needs.{needs}
 use Rattle.slots.proofs.muldivmod.emit_div_guard.Statement.{statement}
 use Rattle.slots.proofs.muldivmod.emit_div_guard.Tie as tie

@@ -1,8 +1,7 @@
 use mathlib.Core.List.{[]}
 use Rattle.slots.specs.Emits.{plainly}
 use mathlib.Core.Path.{refl}
-use native.Mathlib.Omega.{arith}
-use Rattle.emit.specs.Wrote.{same, then, last, nothing}
+use Rattle.emit.specs.Wrote.{nothing}
 use borrow.Author.Needs.{needs}
 use Rattle.slots.proofs.muldivmod.emit_guard.Statement.{statement}
 use Rattle.slots.proofs.muldivmod.emit_guard.Tie as tie

@@ -1,11 +1,7 @@
 use Rattle.jit.specs.SlotSize.{imm-jumps}
 use Rattle.jit.specs.MulDivMod.{mulDivModImm}
-use mathlib.Core.List.{[]}
-use Rattle.emit.specs.Wrote.{nothing, last}
 use Rattle.x86.specs.Code.{targetsOf}
-use Rattle.slots.specs.Emits.{onwards, plainly, empty}
-use mathlib.Core.Path.{refl}
-use native.Mathlib.Omega.{arith}
+use Rattle.slots.specs.Emits.{onwards, empty}
 use borrow.Author.Needs.{needs}
 use Rattle.slots.proofs.muldivmod.emit_muldivmod.Statement.{statement}
 use Rattle.slots.proofs.muldivmod.emit_muldivmod.Tie as tie

@@ -1,12 +1,11 @@
 use Rattle.base.specs.declared.Width.the-variants.{W64}
 use Rattle.x86.specs.Instr.{op, aluImm, MOV}
-use mathlib.Core.List.{[], _∷_}
-use mathlib.Core.Bool.{not}
-use Rattle.jit.specs.MulDivMod.{saved, restored, saves, restores, operate, operated, fromRax}
+use mathlib.Core.List.{_∷_}
+use Rattle.jit.specs.MulDivMod.{saves, operated}
 use Rattle.x86.specs.Code.{blanks-append, size-append, length-blanks}
 use borrow.Author.Tests.{eq-eqb, ne-eqb}
 use native.Mathlib.Omega.{arith}
-use Rattle.emit.specs.Wrote.{same, then, last, nothing}
+use Rattle.emit.specs.Wrote.{then}
 use borrow.Author.Needs.{needs}
 use Rattle.slots.proofs.muldivmod.emit_muldivmod_imm.Statement.{statement}
 use Rattle.slots.proofs.muldivmod.emit_muldivmod_imm.Tie as tie

@@ -5,9 +5,8 @@ use Rattle.x86.specs.Instr.{op, alu, MOV}
 use mathlib.Core.List.{[], _∷_}
 use Rattle.jit.specs.MulDivMod.{saves, operated, guard, computed}
 use Rattle.x86.specs.Code.{blanks-append, size-append, length-blanks, targetsOf}
-use mathlib.Core.Path.{refl}
 use native.Mathlib.Omega.{arith}
-use Rattle.emit.specs.Wrote.{same, then, last, nothing}
+use Rattle.emit.specs.Wrote.{then}
 use borrow.Author.Needs.{needs}
 use Rattle.slots.proofs.muldivmod.emit_muldivmod_reg.Statement.{statement}
 use Rattle.slots.proofs.muldivmod.emit_muldivmod_reg.Tie as tie

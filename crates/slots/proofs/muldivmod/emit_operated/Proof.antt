@@ -1,10 +1,7 @@
-use mathlib.Core.List.{[], _∷_}
-use mathlib.Core.Bool.{not}
-use Rattle.jit.specs.MulDivMod.{saved, restored, saves, restores, operate, operated, fromRax}
+use Rattle.jit.specs.MulDivMod.{restores, operate}
 use Rattle.x86.specs.Code.{blanks-append, size-append, length-blanks}
-use borrow.Author.Tests.{eq-eqb, ne-eqb}
 use native.Mathlib.Omega.{arith}
-use Rattle.emit.specs.Wrote.{same, then, last, nothing}
+use Rattle.emit.specs.Wrote.{then}
 use borrow.Author.Needs.{needs}
 use Rattle.slots.proofs.muldivmod.emit_operated.Statement.{statement}
 use Rattle.slots.proofs.muldivmod.emit_operated.Tie as tie

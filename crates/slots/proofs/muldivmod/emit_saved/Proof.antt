@@ -1,6 +1,5 @@
 use borrow.Author.Tests.{eq-eqb, ne-eqb}
-use native.Mathlib.Omega.{arith}
-use Rattle.emit.specs.Wrote.{same, then, last, nothing}
+use Rattle.emit.specs.Wrote.{last, nothing}
 use borrow.Author.Needs.{needs}
 use Rattle.slots.proofs.muldivmod.emit_saved.Statement.{statement}
 use Rattle.slots.proofs.muldivmod.emit_saved.Tie as tie

@@ -1,8 +1,7 @@
-use Rattle.jit.specs.MulDivMod.{saved, restored, saves, restores, operate, operated, fromRax}
+use Rattle.jit.specs.MulDivMod.{saved}
 use Rattle.x86.specs.Code.{blanks-append, size-append, length-blanks}
-use borrow.Author.Tests.{eq-eqb, ne-eqb}
 use native.Mathlib.Omega.{arith}
-use Rattle.emit.specs.Wrote.{same, then, last, nothing}
+use Rattle.emit.specs.Wrote.{then}
 use borrow.Author.Needs.{needs}
 use Rattle.slots.proofs.muldivmod.emit_saves.Statement.{statement}
 use Rattle.slots.proofs.muldivmod.emit_saves.Tie as tie

@@ -1,7 +1,4 @@
-use mathlib.Core.Path.{refl}
-use borrow.Author.Tests.{eq-eqb, ne-eqb}
-use native.Mathlib.Omega.{arith}
-use Rattle.emit.specs.Wrote.{same, then, last, nothing}
+use Rattle.emit.specs.Wrote.{then, last}
 use borrow.Author.Needs.{needs}
 use Rattle.slots.proofs.muldivmod.emit_tested.Statement.{statement}
 use Rattle.slots.proofs.muldivmod.emit_tested.Tie as tie

@@ -1,7 +1,4 @@
 use Rattle.jit.specs.Frame.{prologue-size}
-use lib.ListN.{length, length-set}
-use borrow.Author.Tests.{lt-ltb, le-ltb, le-leb, lt-leb, eq-eqb, ne-eqb}
-use mathlib.Core.Path.{_≡_, refl, sym, _∙_}
 use native.Mathlib.Omega.{arith}
 use Rattle.translator.proofs.translate.prologue_size.Statement.{statement}
 use Rattle.translator.proofs.translate.prologue_size.Tie as tie

@@ -1,5 +1,4 @@
-use mathlib.Core.Path.{sym, _∙_, refl}
-use borrow.Author.Tests.{eq-eqb, ne-eqb, le-leb, lt-leb}
+use borrow.Author.Tests.{eq-eqb, ne-eqb}
 use borrow.Author.Needs.{needs}
 use Rattle.walk.proofs.step.call_operand.Statement.{statement}
 use Rattle.walk.proofs.step.call_operand.Tie as tie

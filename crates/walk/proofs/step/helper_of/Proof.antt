@@ -3,7 +3,7 @@ use Rattle.walk.specs.Steps.{search-on, search-hit, search-end}
 use Rattle.jit.specs.Translation.{helperOf}
 use mathlib.Core.Path.{_≡_, _∙_, refl, sym}
 use lib.ListN.{length, drop}
-use Prim.Native.Nat.{_≤_, _-_, _+_}
+use Prim.Native.Nat.{_≤_, _-_}
 use borrow.Author.Needs.{needs}
 use Rattle.walk.proofs.step.helper_of.Statement.{statement}
 use Rattle.walk.proofs.step.helper_of.Tie as tie

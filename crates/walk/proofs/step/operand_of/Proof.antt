@@ -1,5 +1,3 @@
-use mathlib.Core.Path.{sym, _∙_, refl}
-use borrow.Author.Tests.{eq-eqb, ne-eqb, le-leb, lt-leb}
 use borrow.Author.Needs.{needs}
 use Rattle.walk.proofs.step.operand_of.Statement.{statement}
 use Rattle.walk.proofs.step.operand_of.Tie as tie

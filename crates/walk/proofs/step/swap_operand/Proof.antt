@@ -1,4 +1,3 @@
-use mathlib.Core.Path.{sym, _∙_}
 use borrow.Author.Needs.{needs}
 use Rattle.walk.proofs.step.swap_operand.Statement.{statement}
 use Rattle.walk.proofs.step.swap_operand.Tie as tie

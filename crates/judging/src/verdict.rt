@@ -1,0 +1,7 @@
+// The answer to both questions.
+use jit::Refusal;
+
+pub enum Verdict {
+    Good,
+    Not(Refusal),
+}

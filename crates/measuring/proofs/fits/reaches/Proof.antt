@@ -1,0 +1,18 @@
+use borrow.Author.Needs.{needs}
+use Rattle.measuring.proofs.fits.reaches.Statement.{statement}
+use Rattle.measuring.proofs.fits.reaches.Tie as tie
+
+-- src/fits.rt:40:5
+target-of-requires : tie.Need-target-of-requires
+target-of-requires c κs = search needs
+
+-- src/fits.rt:40:5
+cast-result : tie.Need-cast-result
+cast-result c = search needs
+
+-- src/fits.rt:36:1
+returns : tie.Need-returns
+returns c = rw (c .target-of .ensures)
+
+pub reaches-spec : {M : Type 1} → statement M
+reaches-spec = tie.close (tie.spec target-of-requires cast-result returns)
