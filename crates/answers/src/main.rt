@@ -3,15 +3,14 @@
 ghost use mathlib.Core.Path.{_≡_};
 ghost use Prim.Native.Nat.{_≤_};
 ghost use lib.ListN.{length};
-use cases::limits;
 use cases::marks;
-use cases::problem;
-use cases::problem::Problem;
 use cases::run;
-use cases::stream;
 use libc::STDERR_FILENO;
 use libc::STDIN_FILENO;
 use libc::STDOUT_FILENO;
+use problems::Problem;
+use records::limits;
+use records::stream;
 
 // The longest case fits several times, and so do short answers ahead of the longest.
 const INPUT: usize = 131072;
@@ -55,8 +54,8 @@ fn made_room(output: &[u8], at: usize, is_at_hand: bool) -> Waiting
 }
 
 fn say_why(index: u64, wrong: Problem) {
-    if !problem::is_end(wrong) {
-        problem::report(b"case", index, wrong);
+    if !problems::is_end(wrong) {
+        problems::report(b"case", index, wrong);
     }
 }
 
@@ -115,7 +114,7 @@ fn answer_next(
         &mut output[from..],
     );
     let wrong = done.problem;
-    if !problem::is_nothing(wrong) {
+    if !problems::is_nothing(wrong) {
         flushed(output, from);
         say_why(index, wrong);
         return last();

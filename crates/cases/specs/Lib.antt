@@ -1,3 +1,2 @@
 -- What the contracts of the crate cite.
 pub mod Marks
-pub mod Problems

@@ -2,17 +2,16 @@
 ghost use mathlib.Core.Path.{_≡_};
 ghost use Prim.Native.Nat.{_≤_};
 ghost use lib.ListN.{length};
-use crate::answer;
-use crate::limits;
 use crate::marks;
-use crate::parts;
-use crate::parts::Case;
-use crate::problem;
-use crate::problem::Problem;
-use crate::stream;
-use crate::stream::Window;
 use jit::Flags;
 use jit::Refusal;
+use problems::Problem;
+use records::answer;
+use records::limits;
+use records::parts;
+use records::parts::Case;
+use records::stream;
+use records::stream::Window;
 use translator::translate::Answer;
 use translator::translate::translate;
 
@@ -82,7 +81,7 @@ fn refused(
     ensures { λ r. ⌜ r .size ≤ length (now (out .exit)) ⌝ }
 {
     let wrong = changed(code, 0, locations, 0, fields, targets, 0);
-    if !problem::is_nothing(wrong) {
+    if !problems::is_nothing(wrong) {
         return no_reply(wrong);
     }
     reply_of(answer::put_refused(out, refusal))
@@ -113,7 +112,7 @@ fn accepted(
         return no_reply(Problem::WrongLengths);
     }
     let wrong = changed(code, end, locations, ends, fields, targets, jumps);
-    if !problem::is_nothing(wrong) {
+    if !problems::is_nothing(wrong) {
         return no_reply(wrong);
     }
     let size = answer::put_accepted(
@@ -222,7 +221,7 @@ fn run_body(
 {
     let case = parts::take_apart(body, ids, addresses);
     let malformed = case.problem;
-    if !problem::is_nothing(malformed) {
+    if !problems::is_nothing(malformed) {
         return no_reply(malformed);
     }
     run_case(
@@ -285,7 +284,7 @@ pub fn run_next(
         limits::CASE,
     );
     let unread = record.problem;
-    if !problem::is_nothing(unread) {
+    if !problems::is_nothing(unread) {
         return not_done(unread);
     }
     let at = record.at;

@@ -3,16 +3,15 @@
 ghost use mathlib.Core.Path.{_≡_};
 ghost use Prim.Native.Nat.{_+_, _≤_};
 ghost use lib.ListN.{length};
-use cases::limits;
 use cases::marks;
-use cases::numbers;
-use cases::problem;
-use cases::problem::Problem;
 use cases::run;
-use cases::stream;
-use cases::stream::Window;
 use libc::STDERR_FILENO;
 use libc::STDOUT_FILENO;
+use problems::Problem;
+use records::limits;
+use records::numbers;
+use records::stream;
+use records::stream::Window;
 
 // The longest case fits, and the longest answer.
 const CASES: usize = 65536;
@@ -91,8 +90,8 @@ fn last() -> Turn
 fn end(index: u64, wrong: Problem, fd: i32, stored: &mut [u8], start: usize, end: usize)
     requires { ⌜ (start ≤ end) × (end ≤ length (now stored)) ⌝ }
 {
-    if !problem::is_end(wrong) {
-        problem::report(b"case", index, wrong);
+    if !problems::is_end(wrong) {
+        problems::report(b"case", index, wrong);
         return;
     }
     let next = stream::next_record(
@@ -106,7 +105,7 @@ fn end(index: u64, wrong: Problem, fd: i32, stored: &mut [u8], start: usize, end
         limits::ANSWER,
     );
     let more = next.problem;
-    if !problem::is_end(more) {
+    if !problems::is_end(more) {
         io::write_all(STDERR_FILENO, b"there are more stored answers than cases\n");
     }
 }
@@ -148,15 +147,15 @@ fn replay_next(
         out,
     );
     let wrong = done.problem;
-    if !problem::is_nothing(wrong) {
+    if !problems::is_nothing(wrong) {
         end(index, wrong, answers, stored, from, to);
         return last();
     }
     let size = done.size;
     let compared = compare_next(answers, stored, from, to, &out[..size]);
     let missing = compared.problem;
-    if !problem::is_nothing(missing) {
-        problem::report(b"stored answer", index, missing);
+    if !problems::is_nothing(missing) {
+        problems::report(b"stored answer", index, missing);
         return last();
     }
     Turn {

@@ -9,19 +9,18 @@
 ghost use mathlib.Core.Path.{_≡_};
 ghost use Prim.Native.Nat.{_≤_, _<_};
 ghost use lib.ListN.{length};
-use cases::limits;
-use cases::numbers;
-use cases::problem;
-use cases::problem::Problem;
-use cases::stream;
-use cases::stream::Window;
+use instructions::Instruction;
+use instructions::Read;
 use intel::text::put_instruction;
 use libc::STDERR_FILENO;
 use libc::STDIN_FILENO;
 use libc::STDOUT_FILENO;
+use problems::Problem;
 use reader::decode::decode;
-use reader::instruction::Instruction;
-use reader::instruction::Read;
+use records::limits;
+use records::numbers;
+use records::stream;
+use records::stream::Window;
 use words::form::put_form;
 use words::text::put_byte;
 
@@ -143,7 +142,7 @@ fn print_answer(index: u64, answer: &[u8], out: &mut [u8]) -> bool {
     }
     let length = numbers::count_at(answer, 1);
     if answer.len() - start < length {
-        problem::report(b"answer", index, Problem::Unfilled);
+        problems::report(b"answer", index, Problem::Unfilled);
         return false;
     }
     let end = start + length;
@@ -160,8 +159,8 @@ struct Turn {
 fn last(index: u64, wrong: Problem) -> Turn
     ensures { λ r. ⌜ (r .start ≡ 0) × (r .end ≡ 0) ⌝ }
 {
-    if !problem::is_end(wrong) {
-        problem::report(b"answer", index, wrong);
+    if !problems::is_end(wrong) {
+        problems::report(b"answer", index, wrong);
     }
     Turn {
         goes_on: false,
@@ -183,7 +182,7 @@ fn print_next(index: u64, input: &mut [u8], start: usize, end: usize, out: &mut 
     let wrong = next.problem;
     let at = next.at;
     let behind = at + next.length;
-    if !problem::is_nothing(wrong) {
+    if !problems::is_nothing(wrong) {
         return last(index, wrong);
     }
     Turn {

@@ -1,81 +1,29 @@
--- The text of an instruction in Intel syntax: the mnemonic, the destination, the source.
+-- The text of an instruction in Intel syntax: the mnemonic, the destination, the source. The operands' own texts are
+-- operands/specs/Operands.antt.
 -- Assumes nothing.
 use mathlib.Core.List.{List, [], _∷_, _++_}
-use Prim.Native.Nat.{ℕ, _+_, _-_, _%_, _^_}
-use lib.Dec.{ltb, eqb}
-use Rattle.base.specs.Pick.{pick}
+use Prim.Native.Nat.{ℕ}
 use Rattle.base.specs.declared.Width.{Width}
 use Rattle.base.specs.declared.Size.{Size}
 use Rattle.base.specs.declared.Size.the-variants.{S8, S16, S32, S64}
-use Rattle.reader.specs.Instruction.{wordOf}
-use Rattle.reader.specs.declared.instruction.Alu.{Alu}
-use Rattle.reader.specs.declared.instruction.Shift.{Shift}
-use Rattle.reader.specs.declared.instruction.Unary.{Unary}
-use Rattle.reader.specs.declared.instruction.Cond.{Cond}
-use Rattle.reader.specs.declared.instruction.Jump.{Jump}
-use Rattle.reader.specs.declared.instruction.Instruction.{Instruction}
+use Rattle.instructions.specs.Instructions.{wordOf}
+use Rattle.instructions.specs.declared.Alu.{Alu}
+use Rattle.instructions.specs.declared.Shift.{Shift}
+use Rattle.instructions.specs.declared.Unary.{Unary}
+use Rattle.instructions.specs.declared.Cond.{Cond}
+use Rattle.instructions.specs.declared.Jump.{Jump}
+use Rattle.instructions.specs.declared.Instruction.{Instruction}
 use Rattle.words.specs.Text.{ascii}
-use Rattle.words.specs.Numerals.{extended}
 use Rattle.words.specs.Forms.{formed}
-use Rattle.intel.specs.Registers.{registerText}
+use Rattle.registers.specs.Registers.{registerText}
+use Rattle.operands.specs.Operands.{constantOf, destinationOf, pairText, withConstantText, loadText, storeText, storeConstantText}
 
--- A constant of 32 bits as an operation of a size takes it: at 64 bits it is extended by its sign. It is written in hexadecimal.
-abbrev pub constantOf : Size → ℕ → ℕ
-constantOf S8 i = i
-constantOf S16 i = i
-constantOf S32 i = i
-constantOf S64 i = extended i
-
--- where a jump goes: the field counts from the end of the instruction, modulo 2 ^ 32
-unfoldable pub destinationOf : ℕ → ℕ → ℕ
-destinationOf end field = (end + field) % 2 ^ 32
-
--- memory: its size, the base, the displacement with its sign. RBP and R13 have no form without one.
-abbrev pub sizeText : Size → List ℕ
-sizeText S8 = ascii "BYTE PTR ["
-sizeText S16 = ascii "WORD PTR ["
-sizeText S32 = ascii "DWORD PTR ["
-sizeText S64 = ascii "QWORD PTR ["
-
-unfoldable pub noDisplacementText : ℕ → List ℕ
-noDisplacementText b = pick (eqb (b % 8) 5) (ascii "+0x0") []
-
-unfoldable pub displacementText : ℕ → ℕ → List ℕ
-displacementText b v =
-    pick (eqb v 0) (noDisplacementText b)
-    (pick (ltb v (2 ^ 31)) (formed (ascii "+0x$") (v ∷ [])) (formed (ascii "-0x$") ((2 ^ 32 - v) ∷ [])))
-
-unfoldable pub memoryText : Size → ℕ → ℕ → List ℕ
-memoryText z b v = sizeText z ++ (registerText S64 b ++ (displacementText b v ++ ascii "]"))
-
--- the operands
-unfoldable pub pairText : Size → ℕ → ℕ → List ℕ
-pairText z d s = registerText z d ++ (ascii "," ++ registerText z s)
-
-unfoldable pub withConstantText : Size → ℕ → ℕ → List ℕ
-withConstantText z d v = registerText z d ++ formed (ascii ",0x$") (v ∷ [])
-
+-- the operands by the instruction's width, and a shift by CL
 unfoldable pub arithmeticText : Width → ℕ → ℕ → List ℕ
 arithmeticText w d i = withConstantText (wordOf w) d (constantOf (wordOf w) i)
 
 unfoldable pub byCountText : Size → ℕ → List ℕ
 byCountText z d = registerText z d ++ ascii ",cl"
-
--- loads of one and two bytes fill 32 bits of the register
-abbrev pub loadedOf : Size → Size
-loadedOf S8 = S32
-loadedOf S16 = S32
-loadedOf S32 = S32
-loadedOf S64 = S64
-
-unfoldable pub loadText : Size → ℕ → ℕ → ℕ → List ℕ
-loadText z b d v = registerText (loadedOf z) d ++ (ascii "," ++ memoryText z b v)
-
-unfoldable pub storeText : Size → ℕ → ℕ → ℕ → List ℕ
-storeText z s b v = memoryText z b v ++ (ascii "," ++ registerText z s)
-
-unfoldable pub storeConstantText : Size → ℕ → ℕ → ℕ → List ℕ
-storeConstantText z b v i = memoryText z b v ++ formed (ascii ",0x$") (constantOf z i ∷ [])
 
 abbrev pub operandsText : Instruction → ℕ → List ℕ
 operandsText (Instruction.Push r) end = registerText S64 r

@@ -1,2 +1,1 @@
-pub mod Registers
 pub mod Intel

@@ -2,12 +2,12 @@
 ghost use Rattle.words.specs.Text.{Says};
 ghost use Rattle.intel.specs.Intel.{aluName, shiftName, unaryName, condName, jumpName, loadName, mnemonicText};
 use base::Size;
-use reader::instruction::Alu;
-use reader::instruction::Cond;
-use reader::instruction::Instruction;
-use reader::instruction::Jump;
-use reader::instruction::Shift;
-use reader::instruction::Unary;
+use instructions::Alu;
+use instructions::Cond;
+use instructions::Instruction;
+use instructions::Jump;
+use instructions::Shift;
+use instructions::Unary;
 use words::text::put_text;
 
 fn put_alu(out: &mut [u8], at: usize, o: Alu) -> usize

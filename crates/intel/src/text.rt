@@ -1,14 +1,12 @@
 // The text of an instruction. `end` is the place behind it in the page, from which a jump counts.
-
 ghost use Rattle.words.specs.Text.{Says};
 ghost use Rattle.intel.specs.Intel.{byCountText, arithmeticText, operandsText, instructionText};
 use crate::mnemonic::put_mnemonic;
-use crate::operand;
-use crate::register::put_register;
 use base::Size;
 use base::Width;
-use reader::forms::size_of;
-use reader::instruction::Instruction;
+use instructions::Instruction;
+use instructions::size_of;
+use registers::put_register;
 use words::form::put_form;
 use words::text::put_text;
 
@@ -23,7 +21,7 @@ fn put_arithmetic(out: &mut [u8], at: usize, w: Width, d: u8, imm: u32) -> usize
     ensures { λ k. ⌜ Says (now (out .entry)) (now (out .exit)) at k (arithmeticText w d imm) ⌝ }
 {
     let z = size_of(w);
-    operand::put_with_constant(out, at, z, d, operand::constant_of(z, imm))
+    operands::put_with_constant(out, at, z, d, operands::constant_of(z, imm))
 }
 
 fn put_operands(out: &mut [u8], at: usize, i: Instruction, end: usize) -> usize
@@ -32,9 +30,9 @@ fn put_operands(out: &mut [u8], at: usize, i: Instruction, end: usize) -> usize
     match i {
         Instruction::Push(r) => put_register(out, at, Size::S64, r),
         Instruction::Pop(r) => put_register(out, at, Size::S64, r),
-        Instruction::Alu(_, w, s, d) => operand::put_pair(out, at, size_of(w), d, s),
+        Instruction::Alu(_, w, s, d) => operands::put_pair(out, at, size_of(w), d, s),
         Instruction::AluImm(_, w, d, imm) => put_arithmetic(out, at, w, d, imm),
-        Instruction::ShiftImm(_, w, d, n) => operand::put_with_constant(
+        Instruction::ShiftImm(_, w, d, n) => operands::put_with_constant(
             out,
             at,
             size_of(w),
@@ -43,17 +41,17 @@ fn put_operands(out: &mut [u8], at: usize, i: Instruction, end: usize) -> usize
         ),
         Instruction::ShiftCl(_, w, d) => put_by_count(out, at, size_of(w), d),
         Instruction::Unary(_, w, r) => put_register(out, at, size_of(w), r),
-        Instruction::Movabs(d, v) => operand::put_with_constant(out, at, Size::S64, d, v),
-        Instruction::Rol16(d, n) => operand::put_with_constant(out, at, Size::S16, d, n as u64),
+        Instruction::Movabs(d, v) => operands::put_with_constant(out, at, Size::S64, d, v),
+        Instruction::Rol16(d, n) => operands::put_with_constant(out, at, Size::S16, d, n as u64),
         Instruction::Bswap(w, d) => put_register(out, at, size_of(w), d),
-        Instruction::Load(z, b, d, v) => operand::put_load(out, at, z, b, d, v),
-        Instruction::Store(z, s, b, v) => operand::put_store(out, at, z, s, b, v),
-        Instruction::StoreImm(z, b, v, imm) => operand::put_store_constant(out, at, z, b, v, imm),
+        Instruction::Load(z, b, d, v) => operands::put_load(out, at, z, b, d, v),
+        Instruction::Store(z, s, b, v) => operands::put_store(out, at, z, s, b, v),
+        Instruction::StoreImm(z, b, v, imm) => operands::put_store_constant(out, at, z, b, v, imm),
         Instruction::Jump(_, field) => put_form(
             out,
             at,
             b"0x$",
-            &[operand::destination_of(end, field)],
+            &[operands::destination_of(end, field)],
         ),
         Instruction::CallReg(r) => put_register(out, at, Size::S64, r),
         Instruction::Ret => at,

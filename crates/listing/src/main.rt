@@ -3,14 +3,14 @@
 mod options;
 mod table;
 
-use cases::stream;
 use jit::Flags;
 use jit::Refusal;
 use libc::STDIN_FILENO;
 use libc::STDOUT_FILENO;
+use lines::LINE;
 use options::LARGEST;
 use options::Options;
-use table::LINE;
+use records::stream;
 use table::Totals;
 use translator::translate::Answer;
 use translator::translate::translate;
@@ -42,7 +42,7 @@ fn list_until(prog: &[u8], number: u8, slot: usize) {
     if number < 6 {
         return;
     }
-    table::list_slots(prog, slot);
+    lines::list_slots(prog, slot);
 }
 
 fn refuse(prog: &[u8], refusal: Refusal) {
@@ -50,8 +50,8 @@ fn refuse(prog: &[u8], refusal: Refusal) {
     let number = refusals::number_of(refusal);
     let slot = refusals::slot_of(refusal);
     list_until(prog, number, slot);
-    let end = words::sentence::sentence(prog, number, slot, &mut line);
-    table::finish(&mut line, end);
+    let end = sentences::sentence(prog, number, slot, &mut line);
+    lines::finish(&mut line, end);
 }
 
 fn exit_of(length: usize) -> usize {

@@ -1,28 +1,21 @@
 // The lines of the listing: a slot, what became of it, and where it jumps. Positions are offsets in the page, in hexadecimal.
 ghost use mathlib.Core.Path.{_≡_};
-ghost use mathlib.Core.List.{[], _∷_};
-ghost use Prim.Native.Nat.{_+_, _/_, min};
-ghost use lib.ListN.{length};
-ghost use Rattle.words.specs.Text.{Says};
 use assembler::put_slot;
+use instructions::Instruction;
+use instructions::Read;
 use intel::text::put_instruction;
-use libc::STDOUT_FILENO;
+use lines::BYTECODE;
+use lines::LINE;
+use lines::finish;
 use reader::decode::decode;
-use reader::instruction::Instruction;
-use reader::instruction::Read;
 use words::form::put_form;
 use words::number::put_hex_byte;
 use words::text::put_byte;
 use words::text::put_padding;
 use words::text::put_text;
 
-// No line is longer.
-pub const LINE: usize = 240;
-
-// The columns of a slot's line and of an instruction's.
+// The columns of a slot's line, beside its bytecode's, and of an instruction's.
 const AT: usize = 11;
-
-const BYTECODE: usize = 22;
 
 const DESTINATION: usize = 54;
 
@@ -41,17 +34,6 @@ pub struct Totals {
     pub page: usize,
     // Where the epilogue begins.
     pub exit: usize,
-}
-
-// The line is over: its newline is put, and it is written out.
-pub fn finish(line: &mut [u8], at: usize) -> usize
-    ensures { λ r. ⌜ Says (now (line .entry)) (now (line .exit)) at r (10 ∷ []) ⌝ }
-{
-    let end = put_byte(line, at, b'\n');
-    if end <= line.len() {
-        io::write_all(STDOUT_FILENO, &line[..end]);
-    }
-    end
 }
 
 fn wide(x: u32) -> usize {
@@ -295,28 +277,4 @@ pub fn list_page(
     list_frame(&mut line, b"epilogue", code, exit, totals.length);
     list_totals(&mut line, totals);
     listed
-}
-
-fn list_bytecode(line: &mut [u8], prog: &[u8], slot: usize) {
-    let next = put_form(line, 0, b"slot #", &[slot as u64]);
-    let next = put_padding(line, next, BYTECODE);
-    let next = put_slot(line, next, prog, slot);
-    finish(line, next);
-}
-
-// The slots of a refused program, up to the one that is refused; nothing became of them. The answer is how many are listed.
-pub fn list_slots(prog: &[u8], until: usize) -> usize
-    ensures { λ r. ⌜ r ≡ min (until + 1) (length (now (prog .entry)) / 8) ⌝ }
-{
-    let mut line = [0u8; LINE];
-    let slots = prog.len() / 8;
-    let mut slot = 0;
-    while slot < slots {
-        if until < slot {
-            return slot;
-        }
-        list_bytecode(&mut line, prog, slot);
-        slot += 1;
-    }
-    slot
 }

@@ -3,7 +3,7 @@
 ghost use lib.ListN.{length};
 ghost use Rattle.jit.specs.Translation.{Inputs, translationOf};
 ghost use Rattle.ndakoleem.specs.Exported.{Exported};
-ghost use Rattle.words.specs.Sentences.{sentenceOf};
+ghost use Rattle.sentences.specs.Sentences.{sentenceOf};
 ghost use Rattle.words.specs.Text.{Says};
 use jit::Flags;
 use translator::translate::Answer;
@@ -72,5 +72,5 @@ pub extern "C" fn ndakoleem_sentence(
 ) -> usize
     ensures { λ r. ⌜ Says (now (out .entry)) (now (out .exit)) 0 r (sentenceOf (now (program .entry)) number slot) ⌝ }
 {
-    words::sentence::sentence(program, number, slot, out)
+    sentences::sentence(program, number, slot, out)
 }

@@ -13,11 +13,11 @@ use Rattle.base.specs.declared.Width.{Width}
 use Rattle.base.specs.declared.Width.the-variants.{W32, W64}
 use Rattle.x86.specs.Instr.{Instr}
 use Rattle.x86.specs.Decode.{Read, bad, got, Next, number, Rex, noRex, rexOf, withRex, Operand, inRegister, inMemory, signed8, withModrm, opcode, opcode16, decode}
-use Rattle.reader.specs.declared.instruction.Read as D
-use Rattle.reader.specs.declared.instruction.Instruction.{Instruction}
-use Rattle.reader.specs.Bytes.{drop-end}
-use Rattle.reader.specs.Instruction.{instrOf, readIs}
-use Rattle.reader.specs.Words.{rex}
+use Rattle.instructions.specs.declared.Read as D
+use Rattle.instructions.specs.declared.Instruction.{Instruction}
+use Rattle.encoding.specs.Bytes.{drop-end}
+use Rattle.instructions.specs.Instructions.{instrOf, readIs}
+use Rattle.forms.specs.Words.{rex}
 
 -- leaves no more than it is given
 abbrev Leaves : Next → Type 0

@@ -5,47 +5,23 @@ ghost use Prim.Native.Nat.{_/_, _<_, _≤_};
 ghost use lib.ListN.{drop};
 ghost use Rattle.x86.specs.Decode.{opcode, opcode16};
 ghost use Rattle.x86.specs.Decode as X;
-ghost use Rattle.reader.specs.Operand.{rexIs};
-ghost use Rattle.reader.specs.Instruction.{readIs};
+ghost use Rattle.encoding.specs.Operand.{rexIs};
+ghost use Rattle.instructions.specs.Instructions.{readIs};
 ghost use Rattle.reader.specs.Opcodes.{Other};
 ghost use Rattle.reader.specs.Takes.{Onward, inside};
-use crate::bytes;
-use crate::bytes::Byte;
-use crate::forms;
 use crate::groups;
-use crate::instruction::Alu;
-use crate::instruction::Cond;
-use crate::instruction::Instruction;
-use crate::instruction::Jump;
-use crate::instruction::Read;
-use crate::operand;
-use crate::operand::Head;
-use crate::operand::Rex;
 use base::Size;
 use base::Width;
-
-// 0F 80+cc cd: the conditions by their numbers
-fn conditional_at(code: &[u8], at: usize, x: Rex, o: u8) -> Read
-    requires { ⌜ o / 16 ≡ 8 ⌝ }
-    ensures { λ r. ⌜ opcode (rexIs x) 0x0f (o ∷ drop at (now (code .entry))) ≡ readIs (now (code .entry)) r ⌝ }
-{
-    if x.there {
-        return Read::Bad;
-    }
-    match o % 16 {
-        2 => forms::relative_at(code, at, Jump::Jcc(Cond::Jb)),
-        3 => forms::relative_at(code, at, Jump::Jcc(Cond::Jae)),
-        4 => forms::relative_at(code, at, Jump::Jcc(Cond::Je)),
-        5 => forms::relative_at(code, at, Jump::Jcc(Cond::Jne)),
-        6 => forms::relative_at(code, at, Jump::Jcc(Cond::Jbe)),
-        7 => forms::relative_at(code, at, Jump::Jcc(Cond::Ja)),
-        12 => forms::relative_at(code, at, Jump::Jcc(Cond::Jl)),
-        13 => forms::relative_at(code, at, Jump::Jcc(Cond::Jge)),
-        14 => forms::relative_at(code, at, Jump::Jcc(Cond::Jle)),
-        15 => forms::relative_at(code, at, Jump::Jcc(Cond::Jg)),
-        _ => Read::Bad,
-    }
-}
+use encoding::bytes;
+use encoding::bytes::Byte;
+use encoding::operand;
+use encoding::operand::Head;
+use encoding::operand::Rex;
+use instructions::Alu;
+use instructions::Instruction;
+use instructions::Jump;
+use instructions::Read;
+use instructions::size_of;
 
 // 0F B6 and 0F B7, the loads that extend
 fn extending_at(code: &[u8], at: usize, x: Rex, o: u8) -> Read
@@ -72,7 +48,7 @@ fn two_bytes_at(code: &[u8], at: usize, x: Rex) -> Read
         return Read::Bad;
     };
     if o / 16 == 8 {
-        return conditional_at(code, next, x, o);
+        return forms::conditional_at(code, next, x, o);
     }
     if o / 8 == 25 {
         return Read::Got(Instruction::Bswap(w, operand::low_number(x, o)), next);
@@ -112,7 +88,7 @@ fn load_word_at(code: &[u8], at: usize, x: Rex) -> Read
     ensures { λ r. ⌜ opcode (rexIs x) 0x8b (drop at (now (code .entry))) ≡ readIs (now (code .entry)) r ⌝ }
 {
     let w = x.width;
-    let z = forms::size_of(w);
+    let z = size_of(w);
     forms::load_at(code, at, x, z)
 }
 

@@ -4,23 +4,23 @@ ghost use lib.ListN.{drop};
 ghost use Rattle.base.specs.declared.Size.the-variants.{S8, S16};
 ghost use Rattle.x86.specs.Instr.{op, storeImm};
 ghost use Rattle.x86.specs.Decode.{number, got, opcode};
-ghost use Rattle.reader.specs.Operand.{rexIs};
-ghost use Rattle.reader.specs.Instruction.{readIs};
-ghost use Rattle.reader.specs.Words.{Stores, Rotates};
-use crate::bytes;
-use crate::bytes::Byte;
-use crate::bytes::Four;
-use crate::forms;
-use crate::forms::Pair;
-use crate::instruction::Alu;
-use crate::instruction::Instruction;
-use crate::instruction::Read;
-use crate::instruction::Shift;
-use crate::instruction::Unary;
-use crate::operand;
-use crate::operand::Modrm;
-use crate::operand::Rex;
+ghost use Rattle.encoding.specs.Operand.{rexIs};
+ghost use Rattle.instructions.specs.Instructions.{readIs};
+ghost use Rattle.forms.specs.Words.{Stores, Rotates};
 use base::Size;
+use encoding::bytes;
+use encoding::bytes::Byte;
+use encoding::bytes::Four;
+use encoding::operand;
+use encoding::operand::Modrm;
+use encoding::operand::Rex;
+use forms::Pair;
+use instructions::Alu;
+use instructions::Instruction;
+use instructions::Read;
+use instructions::Shift;
+use instructions::Unary;
+use instructions::size_of;
 
 // 81 id
 pub fn group1_at(code: &[u8], at: usize, x: Rex) -> Read
@@ -154,7 +154,7 @@ pub fn move_constant_at(code: &[u8], at: usize, x: Rex) -> Read
     ensures { λ r. ⌜ opcode (rexIs x) 0xc7 (drop at (now (code .entry))) ≡ readIs (now (code .entry)) r ⌝ }
 {
     let w = x.width;
-    let z = forms::size_of(w);
+    let z = size_of(w);
     match operand::modrm_at(code, at, x) {
         Modrm::Bad => Read::Bad,
         Modrm::Register(reg, d, next) => match reg % 8 {

@@ -1,7 +1,4 @@
-// The instruction reader: bytes of a page taken apart into instructions, as the definition in crates/x86/specs/Decode.antt says.
-pub mod bytes;
+// The instruction reader: bytes of a page taken apart into instructions, as the definition in crates/x86/specs/Decode.antt says. Here
+// are the opcodes; what stands around them is read by `encoding` and `forms`.
 pub mod decode;
-pub mod forms;
 pub mod groups;
-pub mod instruction;
-pub mod operand;

@@ -1,11 +1,11 @@
 // Translates the bytecode on standard input for a page of 4,096 bytes, with no helpers and both flags false, and writes the code to
 // standard output. A refusal writes nothing there and a line on standard error, as `refused 6 0`: its number and its slot.
-use cases::stream;
 use jit::Flags;
 use jit::Refusal;
 use libc::STDERR_FILENO;
 use libc::STDIN_FILENO;
 use libc::STDOUT_FILENO;
+use records::stream;
 use translator::translate::Answer;
 use translator::translate::translate;
 

@@ -1,4 +1,3 @@
 pub mod Text
 pub mod Numerals
 pub mod Forms
-pub mod Sentences

@@ -4,9 +4,6 @@ use lib.ListN.{length}
 use borrow.Author.Needs.{needs}
 use Rattle.decoded.proofs.print_all.Statement.{statement}
 use Rattle.decoded.proofs.print_all.Tie as tie
-use Rattle.decoded.proofs.print_all.Reads as reads
-use Rattle.decoded.proofs.print_all.Lts as lts
-use Rattle.decoded.proofs.print_next.Reads as print-next-reads
 
 abbrev Inv-loop : tie.InvT-loop
 Inv-loop input₀ out₀ start₀ end₀ index₀ input out start end index = (start ≤ end) × ((end ≤ length input) × ((index ≤ 2 ^ 64 - 1) × ((length input ≡ length input₀) × (length out ≡ length out₀))))

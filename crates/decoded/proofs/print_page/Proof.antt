@@ -4,11 +4,6 @@ use mathlib.Core.Path.{_≡_}
 use lib.ListN.{length}
 use Rattle.decoded.proofs.print_page.Statement.{statement}
 use Rattle.decoded.proofs.print_page.Tie as tie
-use Rattle.decoded.proofs.print_page.Reads as reads
-use Rattle.decoded.proofs.print_page.Lts as lts
-use Rattle.decoded.proofs.flushed.Reads as flushed-reads
-use Rattle.decoded.proofs.put_header.Reads as put-header-reads
-use Rattle.decoded.proofs.put_next.Reads as put-next-reads
 
 abbrev Inv-loop : tie.InvT-loop
 Inv-loop index code out₀ at₀ place₀ out at place = (length out ≡ length out₀) × (at ≤ length out)

@@ -2,12 +2,6 @@ use native.Mathlib.Omega.{arith}
 use borrow.Author.Needs.{needs}
 use Rattle.decoded.proofs.put_next.Statement.{statement}
 use Rattle.decoded.proofs.put_next.Tie as tie
-use Rattle.decoded.proofs.put_next.Reads as reads
-use Rattle.decoded.proofs.put_next.Lts as lts
-use Rattle.decoded.proofs.made_room.Reads as made-room-reads
-use Rattle.decoded.proofs.put_bad.Reads as put-bad-reads
-use Rattle.decoded.proofs.put_line.Reads as put-line-reads
-use Rattle.reader.proofs.decode.decode.Reads as decode-reads
 
 -- src/main.rt:96:9
 made-room-requires : tie.Need-made-room-requires

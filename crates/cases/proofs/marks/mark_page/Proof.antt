@@ -1,14 +1,11 @@
-use Prim.Native.Nat.{ℕ, _+_, _*_, _-_, _≤_, _<_}
+use Prim.Native.Nat.{_-_, _≤_}
 use mathlib.Core.Path.{_≡_}
 use native.Mathlib.Omega.{arith}
 use borrow.Author.Needs.{needs}
-use lib.ListN.{length, length-set, getD}
-use Rattle.cases.specs.Marks.{markAt, tableMarkAt, Marked, Upto, Between, upto-more, between-more}
+use lib.ListN.{length, length-set}
+use Rattle.cases.specs.Marks.{markAt, Upto, upto-more}
 use Rattle.cases.proofs.marks.mark_page.Statement.{statement}
 use Rattle.cases.proofs.marks.mark_page.Tie as tie
-use Rattle.cases.proofs.marks.mark_page.Reads as reads
-use Rattle.cases.proofs.marks.mark_page.Lts as lts
-use Rattle.cases.proofs.marks.mark.Reads as mark-reads
 
 abbrev Inv-loop : tie.InvT-loop
 Inv-loop page₀ i₀ page i = (length page ≡ length page₀) × ((i ≤ length page) × Upto markAt i page)

@@ -1,14 +1,11 @@
-use Prim.Native.Nat.{ℕ, _+_, _*_, _-_, _≤_, _<_}
+use Prim.Native.Nat.{_-_, _≤_}
 use mathlib.Core.Path.{_≡_}
 use native.Mathlib.Omega.{arith}
 use borrow.Author.Needs.{needs}
-use lib.ListN.{length, length-set, getD}
-use Rattle.cases.specs.Marks.{markAt, tableMarkAt, Marked, Upto, Between, upto-more, between-more}
+use lib.ListN.{length, length-set}
+use Rattle.cases.specs.Marks.{tableMarkAt, Upto, upto-more}
 use Rattle.cases.proofs.marks.mark_table.Statement.{statement}
 use Rattle.cases.proofs.marks.mark_table.Tie as tie
-use Rattle.cases.proofs.marks.mark_table.Reads as reads
-use Rattle.cases.proofs.marks.mark_table.Lts as lts
-use Rattle.cases.proofs.marks.table_mark.Reads as table-mark-reads
 
 abbrev Inv-loop : tie.InvT-loop
 Inv-loop table₀ i₀ table i = (length table ≡ length table₀) × ((i ≤ length table) × Upto tableMarkAt i table)

@@ -1,19 +1,7 @@
 use lib.Seq.{length-take-le}
-use lib.ListN.{length}
-use native.Mathlib.Omega.{arith}
-use mathlib.Core.Path.{sym}
 use borrow.Author.Needs.{needs}
 use Rattle.cases.proofs.run.accepted.Statement.{statement}
 use Rattle.cases.proofs.run.accepted.Tie as tie
-use Rattle.cases.proofs.run.accepted.Reads as reads
-use Rattle.cases.proofs.run.accepted.Lts as lts
-use Rattle.cases.proofs.answer.put_accepted.Reads as put-accepted-reads
-use Rattle.cases.proofs.marks.mark_page.Reads as mark-page-reads
-use Rattle.cases.proofs.marks.mark_table.Reads as mark-table-reads
-use Rattle.cases.proofs.problem.is_nothing.Reads as is-nothing-reads
-use Rattle.cases.proofs.run.changed.Reads as changed-reads
-use Rattle.cases.proofs.run.no_reply.Reads as no-reply-reads
-use Rattle.cases.proofs.run.reply_of.Reads as reply-of-reads
 
 -- src/run.rt:82:9
 no-reply-requires : tie.Need-no-reply-requires

@@ -1,14 +1,7 @@
 use lib.Seq.{length-take-le}
-use lib.ListN.{length}
-use native.Mathlib.Omega.{arith}
-use mathlib.Core.Path.{sym}
 use borrow.Author.Needs.{needs}
 use Rattle.cases.proofs.run.run_case.Statement.{statement}
 use Rattle.cases.proofs.run.run_case.Tie as tie
-use Rattle.cases.proofs.run.run_case.Reads as reads
-use Rattle.cases.proofs.run.run_case.Lts as lts
-use Rattle.cases.proofs.run.least.Reads as least-reads
-use Rattle.cases.proofs.run.run_lent.Reads as run-lent-reads
 
 -- src/run.rt:127:9
 least-requires : tie.Need-least-requires

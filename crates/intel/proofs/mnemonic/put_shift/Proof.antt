@@ -1,4 +1,4 @@
-use Rattle.words.specs.Text.{same, then, nothing}
+use Rattle.words.specs.Text.{same}
 use borrow.Author.Needs.{needs}
 use Rattle.intel.proofs.mnemonic.put_shift.Statement.{statement}
 use Rattle.intel.proofs.mnemonic.put_shift.Tie as tie

@@ -1,5 +1,5 @@
 use Rattle.intel.specs.Intel.{arithmeticText}
-use Rattle.words.specs.Text.{same, then, nothing}
+use Rattle.words.specs.Text.{same}
 use borrow.Author.Needs.{needs}
 use Rattle.intel.proofs.text.put_arithmetic.Statement.{statement}
 use Rattle.intel.proofs.text.put_arithmetic.Tie as tie

@@ -1,5 +1,5 @@
 use Rattle.intel.specs.Intel.{byCountText}
-use Rattle.words.specs.Text.{same, then, nothing}
+use Rattle.words.specs.Text.{then}
 use borrow.Author.Needs.{needs}
 use Rattle.intel.proofs.text.put_by_count.Statement.{statement}
 use Rattle.intel.proofs.text.put_by_count.Tie as tie

@@ -1,5 +1,5 @@
 use Rattle.intel.specs.Intel.{instructionText}
-use Rattle.words.specs.Text.{same, then, nothing}
+use Rattle.words.specs.Text.{then}
 use borrow.Author.Needs.{needs}
 use Rattle.intel.proofs.text.put_instruction.Statement.{statement}
 use Rattle.intel.proofs.text.put_instruction.Tie as tie

@@ -1,4 +1,4 @@
-use Rattle.words.specs.Text.{same, then, nothing}
+use Rattle.words.specs.Text.{same, nothing}
 use borrow.Author.Needs.{needs}
 use Rattle.intel.proofs.text.put_operands.Statement.{statement}
 use Rattle.intel.proofs.text.put_operands.Tie as tie

@@ -1,4 +1,4 @@
-use Rattle.reader.specs.Words.{constant}
+use Rattle.forms.specs.Words.{constant}
 use Rattle.x86.specs.Decode.{opcode}
 use borrow.Author.Needs.{needs}
 use Rattle.reader.proofs.decode.constant_at.Statement.{statement}

@@ -1,5 +1,5 @@
-use Rattle.reader.specs.Words.{load-byte, load-two}
-use Rattle.base.specs.Tests.{eqb-true, eqb-false}
+use Rattle.forms.specs.Words.{load-byte, load-two}
+use Rattle.base.specs.Tests.{eqb-false}
 use Rattle.x86.specs.Decode.{opcode}
 use borrow.Author.Needs.{needs}
 use Rattle.reader.proofs.decode.extending_at.Statement.{statement}

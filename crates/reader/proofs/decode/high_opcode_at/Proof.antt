@@ -1,4 +1,4 @@
-use Rattle.reader.specs.Words.{store-byte}
+use Rattle.forms.specs.Words.{store-byte}
 use Rattle.reader.specs.Opcodes.{high-unknown}
 use borrow.Author.Needs.{needs}
 use Rattle.reader.proofs.decode.high_opcode_at.Statement.{statement}

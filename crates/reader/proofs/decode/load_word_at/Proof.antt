@@ -1,4 +1,4 @@
-use Rattle.reader.specs.Words.{load-word}
+use Rattle.forms.specs.Words.{load-word}
 use borrow.Author.Needs.{needs}
 use Rattle.reader.proofs.decode.load_word_at.Statement.{statement}
 use Rattle.reader.proofs.decode.load_word_at.Tie as tie

@@ -1,5 +1,5 @@
-use Rattle.reader.specs.Words.{store16, rotate16, store-two}
-use Rattle.base.specs.Tests.{eqb-true, eqb-false}
+use Rattle.forms.specs.Words.{store16, rotate16, store-two}
+use Rattle.base.specs.Tests.{eqb-false}
 use Rattle.x86.specs.Decode.{opcode16}
 use borrow.Author.Needs.{needs}
 use Rattle.reader.proofs.decode.opcode16_at.Statement.{statement}

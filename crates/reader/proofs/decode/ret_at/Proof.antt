@@ -1,5 +1,4 @@
 use Rattle.x86.specs.Decode.{opcode}
-use borrow.Author.Needs.{needs}
 use Rattle.reader.proofs.decode.ret_at.Statement.{statement}
 use Rattle.reader.proofs.decode.ret_at.Tie as tie
 

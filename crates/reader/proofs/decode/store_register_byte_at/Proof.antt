@@ -1,4 +1,4 @@
-use Rattle.reader.specs.Words.{store-register-byte}
+use Rattle.forms.specs.Words.{store-register-byte}
 use Rattle.x86.specs.Decode.{opcode}
 use borrow.Author.Needs.{needs}
 use Rattle.reader.proofs.decode.store_register_byte_at.Statement.{statement}

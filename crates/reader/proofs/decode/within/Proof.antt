@@ -1,5 +1,4 @@
 use borrow.Author.Tests.{lt-ltb, le-ltb}
-use borrow.Author.Needs.{needs}
 use Rattle.reader.proofs.decode.within.Statement.{statement}
 use Rattle.reader.proofs.decode.within.Tie as tie
 

@@ -1,86 +1,65 @@
 use mathlib.Core.Path.{refl}
-use Rattle.base.specs.Tests.{eqb-true, eqb-false}
+use Rattle.base.specs.Tests.{eqb-false}
 use Rattle.x86.specs.Decode.{opcode}
 use borrow.Author.Needs.{needs}
 use Rattle.reader.proofs.groups.group1_at.Statement.{statement}
 use Rattle.reader.proofs.groups.group1_at.Tie as tie
-use Rattle.reader.proofs.groups.group1_at.Reads as reads
-use Rattle.reader.proofs.groups.group1_at.Lts as lts
-use Rattle.reader.proofs.forms.alu_imm_at.Reads as alu-imm-at-reads
-use Rattle.reader.proofs.forms.registers_at.Reads as registers-at-reads
 
--- src/groups.rt:30:34
 registers-at-requires : tie.Need-registers-at-requires
 registers-at-requires c κs = search needs
 
--- src/groups.rt:30:18
 enum-known-reg : tie.Need-enum-known-reg
 enum-known-reg c = search needs
 
--- src/groups.rt:31:9
 enum-told : tie.Need-enum-told
 enum-told c = search needs
 
--- src/groups.rt:31:9
 returns : tie.Need-returns
 unfolding opcode
 returns c = rw (c .before .before .registers-at .ensures _ (λ n b v l. refl), c .enum-told .given .1)
 
--- src/groups.rt:34:14
 alu-imm-at-requires : tie.Need-alu-imm-at-requires
 alu-imm-at-requires c κs = search needs
 
--- src/groups.rt:35:14
 alu-imm-at-requires-2 : tie.Need-alu-imm-at-requires-2
 alu-imm-at-requires-2 c κs = search needs
 
--- src/groups.rt:36:14
 alu-imm-at-requires-3 : tie.Need-alu-imm-at-requires-3
 alu-imm-at-requires-3 c κs = search needs
 
--- src/groups.rt:37:14
 alu-imm-at-requires-4 : tie.Need-alu-imm-at-requires-4
 alu-imm-at-requires-4 c κs = search needs
 
--- src/groups.rt:38:14
 alu-imm-at-requires-5 : tie.Need-alu-imm-at-requires-5
 alu-imm-at-requires-5 c κs = search needs
 
--- src/groups.rt:39:14
 alu-imm-at-requires-6 : tie.Need-alu-imm-at-requires-6
 alu-imm-at-requires-6 c κs = search needs
 
--- src/groups.rt:26:1
 returns-2 : tie.Need-returns-2
 unfolding opcode
 returns-2 c = rw (c .before .before .before .before .before .registers-at .ensures _ (λ n b v l. refl), c .before .before .before .reg .given .1, c .before .match2 .keys1, c .alu-imm-at .ensures)
 
--- src/groups.rt:26:1
 returns-3 : tie.Need-returns-3
 unfolding opcode
 returns-3 c = rw (c .before .before .before .before .before .registers-at .ensures _ (λ n b v l. refl), c .before .before .before .reg .given .1, c .before .match2 .keys2, c .alu-imm-at2 .ensures)
 
--- src/groups.rt:26:1
 returns-4 : tie.Need-returns-4
 unfolding opcode
 returns-4 c = rw (c .before .before .before .before .before .registers-at .ensures _ (λ n b v l. refl), c .before .before .before .reg .given .1, c .before .match2 .keys3, c .alu-imm-at3 .ensures)
 
--- src/groups.rt:26:1
 returns-5 : tie.Need-returns-5
 unfolding opcode
 returns-5 c = rw (c .before .before .before .before .before .registers-at .ensures _ (λ n b v l. refl), c .before .before .before .reg .given .1, c .before .match2 .keys4, c .alu-imm-at4 .ensures)
 
--- src/groups.rt:26:1
 returns-6 : tie.Need-returns-6
 unfolding opcode
 returns-6 c = rw (c .before .before .before .before .before .registers-at .ensures _ (λ n b v l. refl), c .before .before .before .reg .given .1, c .before .match2 .keys5, c .alu-imm-at5 .ensures)
 
--- src/groups.rt:26:1
 returns-7 : tie.Need-returns-7
 unfolding opcode
 returns-7 c = rw (c .before .before .before .before .before .registers-at .ensures _ (λ n b v l. refl), c .before .before .before .reg .given .1, c .before .match2 .keys6, c .alu-imm-at6 .ensures)
 
--- src/groups.rt:26:1
 returns-8 : tie.Need-returns-8
 unfolding opcode
 returns-8 c = rw (c .before .before .before .before .registers-at .ensures _ (λ n b v l. refl), c .before .before .reg .given .1, eqb-false _ _ (c .match2 .rest .0 .0 .0 .0 .0 .1), eqb-false _ _ (c .match2 .rest .0 .0 .0 .0 .1), eqb-false _ _ (c .match2 .rest .0 .0 .0 .1), eqb-false _ _ (c .match2 .rest .0 .0 .1), eqb-false _ _ (c .match2 .rest .0 .1), eqb-false _ _ (c .match2 .rest .1))

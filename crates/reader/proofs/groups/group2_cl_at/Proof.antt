@@ -1,46 +1,35 @@
 use mathlib.Core.Path.{refl}
-use Rattle.base.specs.Tests.{eqb-true, eqb-false}
+use Rattle.base.specs.Tests.{eqb-false}
 use Rattle.x86.specs.Decode.{opcode}
 use borrow.Author.Needs.{needs}
 use Rattle.reader.proofs.groups.group2_cl_at.Statement.{statement}
 use Rattle.reader.proofs.groups.group2_cl_at.Tie as tie
-use Rattle.reader.proofs.groups.group2_cl_at.Reads as reads
-use Rattle.reader.proofs.groups.group2_cl_at.Lts as lts
-use Rattle.reader.proofs.forms.registers_at.Reads as registers-at-reads
 
--- src/groups.rt:65:34
 registers-at-requires : tie.Need-registers-at-requires
 registers-at-requires c κs = search needs
 
--- src/groups.rt:65:18
 enum-known-reg : tie.Need-enum-known-reg
 enum-known-reg c = search needs
 
--- src/groups.rt:66:9
 enum-told : tie.Need-enum-told
 enum-told c = search needs
 
--- src/groups.rt:66:9
 returns : tie.Need-returns
 unfolding opcode
 returns c = rw (c .before .before .registers-at .ensures _ (λ n b v l. refl), c .enum-told .given .1)
 
--- src/groups.rt:61:1
 returns-2 : tie.Need-returns-2
 unfolding opcode
 returns-2 c = rw (c .before .before .before .before .registers-at .ensures _ (λ n b v l. refl), c .before .before .reg .given .1, c .match2 .keys1)
 
--- src/groups.rt:61:1
 returns-3 : tie.Need-returns-3
 unfolding opcode
 returns-3 c = rw (c .before .before .before .before .registers-at .ensures _ (λ n b v l. refl), c .before .before .reg .given .1, c .match2 .keys2)
 
--- src/groups.rt:61:1
 returns-4 : tie.Need-returns-4
 unfolding opcode
 returns-4 c = rw (c .before .before .before .before .registers-at .ensures _ (λ n b v l. refl), c .before .before .reg .given .1, c .match2 .keys3)
 
--- src/groups.rt:61:1
 returns-5 : tie.Need-returns-5
 unfolding opcode
 returns-5 c = rw (c .before .before .before .before .registers-at .ensures _ (λ n b v l. refl), c .before .before .reg .given .1, eqb-false _ _ (c .match2 .rest .0 .0 .1), eqb-false _ _ (c .match2 .rest .0 .1), eqb-false _ _ (c .match2 .rest .1))

@@ -4,33 +4,24 @@ use Rattle.x86.specs.Decode.{opcode}
 use borrow.Author.Needs.{needs}
 use Rattle.reader.proofs.groups.group5_at.Statement.{statement}
 use Rattle.reader.proofs.groups.group5_at.Tie as tie
-use Rattle.reader.proofs.groups.group5_at.Reads as reads
-use Rattle.reader.proofs.groups.group5_at.Lts as lts
-use Rattle.reader.proofs.forms.registers_at.Reads as registers-at-reads
 
--- src/groups.rt:97:34
 registers-at-requires : tie.Need-registers-at-requires
 registers-at-requires c κs = search needs
 
--- src/groups.rt:97:18
 enum-known-reg : tie.Need-enum-known-reg
 enum-known-reg c = search needs
 
--- src/groups.rt:98:9
 enum-told : tie.Need-enum-told
 enum-told c = search needs
 
--- src/groups.rt:98:9
 returns : tie.Need-returns
 unfolding opcode
 returns c = rw (c .before .before .registers-at .ensures _ (λ n b v l. refl), c .enum-told .given .1)
 
--- src/groups.rt:101:9
 returns-2 : tie.Need-returns-2
 unfolding opcode
 returns-2 c = rw (c .before .before .before .before .registers-at .ensures _ (λ n b v l. refl), c .before .before .reg .given .1, eqb-true _ _ (c .if1 .taken))
 
--- src/groups.rt:94:1
 returns-3 : tie.Need-returns-3
 unfolding opcode
 returns-3 c = rw (c .before .before .before .before .registers-at .ensures _ (λ n b v l. refl), c .before .before .reg .given .1, eqb-false _ _ (c .if1 .left))

@@ -1,54 +1,40 @@
 use native.Mathlib.Nat.{add-zero}
-use mathlib.Core.Path.{_∙_, refl}
+use mathlib.Core.Path.{_∙_}
 use Rattle.base.specs.Tests.{eqb-true, eqb-false}
 use Rattle.x86.specs.Decode.{number}
 use borrow.Author.Needs.{needs}
 use Rattle.reader.proofs.groups.rotate_at.Statement.{statement}
 use Rattle.reader.proofs.groups.rotate_at.Tie as tie
-use Rattle.reader.proofs.groups.rotate_at.Reads as reads
-use Rattle.reader.proofs.groups.rotate_at.Lts as lts
-use Rattle.reader.proofs.bytes.byte_at.Reads as byte-at-reads
-use Rattle.reader.proofs.forms.registers_at.Reads as registers-at-reads
 
--- src/groups.rt:177:34
 registers-at-requires : tie.Need-registers-at-requires
 registers-at-requires c κs = search needs
 
--- src/groups.rt:177:18
 enum-known-reg : tie.Need-enum-known-reg
 enum-known-reg c = search needs
 
--- src/groups.rt:178:9
 enum-told : tie.Need-enum-told
 enum-told c = search needs
 
--- src/groups.rt:178:9
 returns : tie.Need-returns
 returns c = λ k f m. c .before .before .registers-at .ensures k m ∙ rw (c .enum-told .given .1)
 
--- src/groups.rt:181:36
 byte-at-requires : tie.Need-byte-at-requires
 byte-at-requires c κs = search needs
 
--- src/groups.rt:181:22
 enum-known-count : tie.Need-enum-known-count
 enum-known-count c = search needs
 
--- src/groups.rt:182:13
 enum-told-2 : tie.Need-enum-told-2
 enum-told-2 c = search needs
 
--- src/groups.rt:182:13
 returns-2 : tie.Need-returns-2
 unfolding number
 returns-2 c = λ k f m. c .before .before .before .before .before .before .before .registers-at .ensures k m ∙ rw (c .before .before .before .before .before .reg .given .1) (f _ _ _ ∙ rw (eqb-true _ _ (c .before .before .before .if1 .taken), c .before .before .byte-at .ensures, c .enum-told2 .given .1))
 
--- src/groups.rt:184:9
 returns-3 : tie.Need-returns-3
 unfolding number
 returns-3 c = λ k f m. c .before .before .before .before .before .before .before .before .registers-at .ensures k m ∙ rw (c .before .before .before .before .before .before .reg .given .1) (f _ _ _ ∙ rw (eqb-true _ _ (c .before .before .before .before .if1 .taken), c .before .before .before .byte-at .ensures, c .before .count .given .1, add-zero))
 
--- src/groups.rt:173:1
 returns-4 : tie.Need-returns-4
 unfolding number
 returns-4 c = λ k f m. c .before .before .before .before .registers-at .ensures k m ∙ rw (c .before .before .reg .given .1) (f _ _ _ ∙ rw (eqb-false _ _ (c .if1 .left)))

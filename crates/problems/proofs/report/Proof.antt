@@ -1,0 +1,38 @@
+use Prim.Native.Nat.{_≤_}
+use native.Mathlib.Omega.{arith}
+use lib.ListN.{length}
+use lib.Seq.{length-take-le}
+use Rattle.words.specs.Text.{kept}
+use borrow.Author.Needs.{needs}
+use Rattle.problems.proofs.report.Statement.{statement}
+use Rattle.problems.proofs.report.Tie as tie
+
+slice-aggregate-put-report : tie.Need-slice-aggregate-put-report
+slice-aggregate-put-report c = search needs
+
+put-report-requires : tie.Need-put-report-requires
+put-report-requires c κs = search needs
+
+array-share-prefix-line : tie.Need-array-share-prefix-line
+array-share-prefix-line c = search needs
+
+slice-aggregate-write-all : tie.Need-slice-aggregate-write-all
+slice-aggregate-write-all c =
+    let h : c .before .before .put-report .result ≤ length (c .before .before .put-report .last .0) = omega (arith, c .before .before .put-report .ensures .next, kept (c .before .before .put-report .ensures)) in simp (length-take-le, h)
+
+write-all-requires : tie.Need-write-all-requires
+write-all-requires c κs = search needs
+
+returns : tie.Need-returns
+returns c = search needs
+
+pub report-spec : {M : Type 1} → statement M
+report-spec =
+    tie.close
+    (tie.spec
+    slice-aggregate-put-report
+    put-report-requires
+    array-share-prefix-line
+    slice-aggregate-write-all
+    write-all-requires
+    returns)
