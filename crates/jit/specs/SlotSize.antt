@@ -1,4 +1,4 @@
--- No slot has more than 42 bytes, and none lists more than one jump.
+-- No slot has more than 42 bytes, most have 14 at most, and none lists more than one jump.
 -- Assumes nothing.
 use mathlib.Core.Path.{_≡_}
 use mathlib.Core.Bool.{Bool, true, false, not}
@@ -40,8 +40,8 @@ bounded (jump j d ∷ c) = omega (arith, bounded c)
 bounded (callReg r ∷ c) = omega (arith, rex-most 0 0 r, bounded c)
 bounded (ret ∷ c) = omega (arith, bounded c)
 
-listing : (c : Code) → T (leb (bound c) 42) → size c ≤ 42
-listing c t = le-trans (bounded c) (leb→le (bound c) 42 t)
+listing : (m : ℕ) (c : Code) → T (leb (bound c) m) → size c ≤ m
+listing m c t = le-trans (bounded c) (leb→le (bound c) m t)
 
 -- bounds of the parts make bounds of the whole
 both : (a b : Code) {j k : ℕ} → size a ≤ j → size b ≤ k → size (a ++ b) ≤ j + k
@@ -114,7 +114,7 @@ reg-most o slot w s d =
     both (guard o slot w s d) (computed o w (op (alu MOV W64 s RCX) ∷ []) d) (guard-most o slot w s d)
     (computed-most o w (op (alu MOV W64 s RCX) ∷ []) d {k = 3} (omega (arith, plain-most (alu MOV W64 s RCX))))
 
-swap-most : (d bits : ℕ) → size (swap d bits) ≤ 42
+swap-most : (d bits : ℕ) → size (swap d bits) ≤ 14
 swap-most d bits =
     chosen (eqb bits 16) (op (rol16 d 8) ∷ op (aluImm AND W32 d 0xffff) ∷ []) (pick (eqb bits 32) (op (bswap W32 d) ∷ []) (op (bswap W64 d) ∷ []))
     (omega (arith, plain-most (rol16 d 8), plain-most (aluImm AND W32 d 0xffff)))
@@ -124,29 +124,71 @@ call-most : (t : Bool) (value target : ℕ) → size (pick t (helperCall value) 
 unfolding rex
 call-most t value target = chosen t (helperCall value) (localCall target) (omega (arith, load-most RAX value)) (omega arith)
 
+-- a division and a call are the long ones
+abbrev pub mostOf : Kind → ℕ
+mostOf (LdAbs z) = 14
+mostOf (LdInd z) = 14
+mostOf LdDwImm = 14
+mostOf (LdReg z) = 14
+mostOf (StImm z) = 14
+mostOf (StReg z) = 14
+mostOf (Alu o w s) = 14
+mostOf (Shift o w s) = 14
+mostOf (Neg w) = 14
+mostOf (MulDivMod o w s) = 42
+mostOf (Mov w s) = 14
+mostOf Le = 14
+mostOf Be = 14
+mostOf Ja = 14
+mostOf (Jump c w s) = 14
+mostOf Call = 42
+mostOf Exit = 14
+
+pub slot-within : (k : Kind) (slot : ℕ) (i : Insn) (value : ℕ) → size (slotCode k slot i value) ≤ mostOf k
+slot-within (LdAbs z) slot i value = listing 14 (slotCode (LdAbs z) slot i value) tt
+slot-within (LdInd z) slot i value = listing 14 (slotCode (LdInd z) slot i value) tt
+slot-within LdDwImm slot i value = omega (arith, load-most (regOf (i .dst)) value)
+slot-within (LdReg z) slot i value = listing 14 (slotCode (LdReg z) slot i value) tt
+slot-within (StImm z) slot i value = listing 14 (slotCode (StImm z) slot i value) tt
+slot-within (StReg z) slot i value = listing 14 (slotCode (StReg z) slot i value) tt
+slot-within (Alu o w Imm) slot i value = listing 14 (slotCode (Alu o w Imm) slot i value) tt
+slot-within (Alu o w Reg) slot i value = listing 14 (slotCode (Alu o w Reg) slot i value) tt
+slot-within (Shift o w Imm) slot i value = listing 14 (slotCode (Shift o w Imm) slot i value) tt
+slot-within (Shift o w Reg) slot i value = listing 14 (slotCode (Shift o w Reg) slot i value) tt
+slot-within (Neg w) slot i value = listing 14 (slotCode (Neg w) slot i value) tt
+slot-within (MulDivMod o w Imm) slot i value = imm-most o w (regOf (i .dst)) (i .imm)
+slot-within (MulDivMod o w Reg) slot i value = reg-most o slot w (regOf (i .src)) (regOf (i .dst))
+slot-within (Mov w Imm) slot i value = listing 14 (slotCode (Mov w Imm) slot i value) tt
+slot-within (Mov w Reg) slot i value = listing 14 (slotCode (Mov w Reg) slot i value) tt
+slot-within Le slot i value = listing 14 (slotCode Le slot i value) tt
+slot-within Be slot i value = swap-most (regOf (i .dst)) (i .imm)
+slot-within Ja slot i value = listing 14 (slotCode Ja slot i value) tt
+slot-within (Jump c w Imm) slot i value = listing 14 (slotCode (Jump c w Imm) slot i value) tt
+slot-within (Jump c w Reg) slot i value = listing 14 (slotCode (Jump c w Reg) slot i value) tt
+slot-within Call slot i value = call-most (eqb (i .src) 0) value (targetOf slot (i .imm))
+slot-within Exit slot i value = listing 14 (slotCode Exit slot i value) tt
+
 pub slot-most : (k : Kind) (slot : ℕ) (i : Insn) (value : ℕ) → size (slotCode k slot i value) ≤ 42
-slot-most (LdAbs z) slot i value = listing (slotCode (LdAbs z) slot i value) tt
-slot-most (LdInd z) slot i value = listing (slotCode (LdInd z) slot i value) tt
-slot-most LdDwImm slot i value = omega (arith, load-most (regOf (i .dst)) value)
-slot-most (LdReg z) slot i value = listing (slotCode (LdReg z) slot i value) tt
-slot-most (StImm z) slot i value = listing (slotCode (StImm z) slot i value) tt
-slot-most (StReg z) slot i value = listing (slotCode (StReg z) slot i value) tt
-slot-most (Alu o w Imm) slot i value = listing (slotCode (Alu o w Imm) slot i value) tt
-slot-most (Alu o w Reg) slot i value = listing (slotCode (Alu o w Reg) slot i value) tt
-slot-most (Shift o w Imm) slot i value = listing (slotCode (Shift o w Imm) slot i value) tt
-slot-most (Shift o w Reg) slot i value = listing (slotCode (Shift o w Reg) slot i value) tt
-slot-most (Neg w) slot i value = listing (slotCode (Neg w) slot i value) tt
-slot-most (MulDivMod o w Imm) slot i value = imm-most o w (regOf (i .dst)) (i .imm)
-slot-most (MulDivMod o w Reg) slot i value = reg-most o slot w (regOf (i .src)) (regOf (i .dst))
-slot-most (Mov w Imm) slot i value = listing (slotCode (Mov w Imm) slot i value) tt
-slot-most (Mov w Reg) slot i value = listing (slotCode (Mov w Reg) slot i value) tt
-slot-most Le slot i value = listing (slotCode Le slot i value) tt
-slot-most Be slot i value = swap-most (regOf (i .dst)) (i .imm)
-slot-most Ja slot i value = listing (slotCode Ja slot i value) tt
-slot-most (Jump c w Imm) slot i value = listing (slotCode (Jump c w Imm) slot i value) tt
-slot-most (Jump c w Reg) slot i value = listing (slotCode (Jump c w Reg) slot i value) tt
-slot-most Call slot i value = call-most (eqb (i .src) 0) value (targetOf slot (i .imm))
-slot-most Exit slot i value = listing (slotCode Exit slot i value) tt
+slot-most k slot i value = le-trans (slot-within k slot i value) (by k)
+  where
+    by : (k : Kind) → mostOf k ≤ 42
+    by (LdAbs z) = omega arith
+    by (LdInd z) = omega arith
+    by LdDwImm = omega arith
+    by (LdReg z) = omega arith
+    by (StImm z) = omega arith
+    by (StReg z) = omega arith
+    by (Alu o w s) = omega arith
+    by (Shift o w s) = omega arith
+    by (Neg w) = omega arith
+    by (MulDivMod o w s) = omega arith
+    by (Mov w s) = omega arith
+    by Le = omega arith
+    by Be = omega arith
+    by Ja = omega arith
+    by (Jump c w s) = omega arith
+    by Call = omega arith
+    by Exit = omega arith
 
 -- The listed jumps of a slot: one at most.
 abbrev jumpsIn : Code → ℕ

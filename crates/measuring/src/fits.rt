@@ -1,5 +1,5 @@
-// The quick check: is the program accepted for sure? It asks for room for the longest code that a program of this length can have, and
-// looks at each slot only as far as a refusal could come from. It knows no refusal and its number: where it has a doubt, measuring decides.
+// The quick check: is the program accepted for sure? It keeps room for the longest code that each slot can have, and looks at a slot only
+// as far as a refusal could come from. It knows no refusal and its number: where it has a doubt, measuring decides.
 ghost use mathlib.Core.Path.{_≡_};
 ghost use mathlib.Core.Bool.{Bool};
 ghost use Prim.Native.Nat.{suc, _+_, _*_, _/_, _≤_, _<_, _^_};
@@ -8,7 +8,7 @@ ghost use lib.ListN.{length};
 ghost use Rattle.ebpf.specs.Kinds.{numbers};
 ghost use Rattle.jit.specs.Slots.{targetOf};
 ghost use Rattle.jit.specs.Translation.{helperOf, rest};
-ghost use Rattle.measuring.specs.Fits.{isAddress, goodCall, narrowIf, Sees, Sure};
+ghost use Rattle.measuring.specs.Fits.{isAddress, goodCall, narrowIf, longIf, Sees, Sure};
 use base::Slot;
 use ebpf::insn;
 use ebpf::kind;
@@ -16,10 +16,12 @@ use jit::Helper;
 use slots::emission;
 use walk::step;
 
-// What a look at a slot finds: a doubt, or a slot that is translated, with the next one as its second half or without.
+// What a look at a slot finds: a doubt, or a slot that is translated: to 14 bytes at most, to 42 (division and calls), or with the next
+// slot as its second half.
 pub enum Glance {
     Doubtful,
     Narrow,
+    Long,
     Wide,
 }
 
@@ -28,6 +30,15 @@ fn narrow_if(fine: bool) -> Glance
 {
     if fine {
         return Glance::Narrow;
+    }
+    Glance::Doubtful
+}
+
+fn long_if(fine: bool) -> Glance
+    ensures { λ r. ⌜ r ≡ longIf fine ⌝ }
+{
+    if fine {
+        return Glance::Long;
     }
     Glance::Doubtful
 }
@@ -93,10 +104,11 @@ fn look_at(
             }
             Glance::Doubtful
         }
+        11 => Glance::Long,
         14 => narrow_if(step::swap_bits(insn::read_i32(prog, at + 4))),
         15 => narrow_if(reaches(n, slot, insn::offset_at(prog, at + 2))),
         16 => narrow_if(reaches(n, slot, insn::offset_at(prog, at + 2))),
-        17 => narrow_if(calls(
+        17 => long_if(calls(
             ids,
             addresses,
             n,
@@ -108,19 +120,21 @@ fn look_at(
     }
 }
 
-// 42 bytes are the longest code of a slot, 16 the epilogue.
+// 14 bytes are kept for each slot and 16 for the epilogue; what a long slot has beyond 14 is taken from what the page has beyond these.
 pub fn fits(prog: &[u8], ids: &[u32], addresses: &[u64], page: usize, start: usize) -> bool
     requires { ⌜ (length (now prog) ≤ 16384) × ((page ≤ 131072) × ((start ≤ page) × (length (now ids) ≡ length (now addresses)))) ⌝ }
     ensures { λ r. ⌜ Sure (length (now (prog .entry)) / 8) page start (rest (suc (length (now (prog .entry)) / 8)) (now (prog .entry)) (now (ids .entry)) (now (addresses .entry)) page 0 start) r ⌝ }
 {
     let kinds = kind::KINDS;
     let n = prog.len() / 8;
-    if page < start + 42 * n + 16 {
+    let kept = start + 14 * n + 16;
+    if page < kept {
         return false;
     }
     if prog.len() % 8 != 0 {
         return false;
     }
+    let mut spare = page - kept;
     let mut slot: usize = 0;
     while slot < n {
         match look_at(&kinds, prog, ids, addresses, n, Slot { number: slot }) {
@@ -128,6 +142,13 @@ pub fn fits(prog: &[u8], ids: &[u32], addresses: &[u64], page: usize, start: usi
                 return false;
             }
             Glance::Narrow => {
+                slot += 1;
+            }
+            Glance::Long => {
+                if spare < 28 {
+                    return false;
+                }
+                spare -= 28;
                 slot += 1;
             }
             Glance::Wide => {

@@ -7,9 +7,6 @@ use native.Mathlib.Omega.{arith}
 use borrow.Author.Needs.{needs}
 use Rattle.emit.proofs.bytes.emit_rexed.Statement.{statement}
 use Rattle.emit.proofs.bytes.emit_rexed.Tie as tie
-use Rattle.emit.proofs.bytes.emit_rexed.Reads as reads
-use Rattle.emit.proofs.bytes.emit_rexed.Lts as lts
-use Rattle.emit.proofs.bytes.emit_bytes.Reads as emit-bytes-reads
 
 -- src/bytes.rt:74:16
 mul-bits : tie.Need-mul-bits
