@@ -3,3 +3,4 @@ pub mod Tests
 pub mod Bytes
 pub mod Cases
 pub mod Table
+pub mod Lists

@@ -8,3 +8,4 @@ pub mod Worked
 pub mod SlotSize
 pub mod Bounds
 pub mod Counted
+pub mod Constants

@@ -30,7 +30,7 @@ use Rattle.x86.specs.Instr.{alu, op, TEST, XOR}
 use Rattle.x86.specs.Code.{size, size-append}
 use Rattle.jit.specs.MulDivMod.{Code, saves, restored, restores, fromRax, operate, operated, computed, byZero, guard}
 use Rattle.jit.specs.Slots.{regOf, targetOf, loadImm, aluOf, shiftOf, testOf, aluCode, shiftCode, movCode, mulDivModCode, jumpCode, swap, helperCall, localCall, callCode, slotCode}
-use Rattle.slots.specs.Codes.{load-short, load-long}
+use Rattle.jit.specs.Constants.{load-short, load-long}
 
 -- the REX prefix is there, or it is not
 pub rex-none : (w r b : ℕ) → 8 * w + 4 * (r / 8) + b / 8 ≡ 0 → 0 ≡ length (rex w r b)

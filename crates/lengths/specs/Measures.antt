@@ -7,6 +7,7 @@ use native.Mathlib.Omega.{arith}
 use lib.Dec.{eqb}
 use lib.ListN.{length}
 use borrow.Author.Tests.{eq-eqb, ne-eqb}
+use Rattle.base.specs.Lists.{empty}
 use Rattle.base.specs.Pick.{pick}
 use Rattle.base.specs.declared.Width.{Width}
 use Rattle.base.specs.declared.Width.the-variants.{W64}
@@ -47,12 +48,8 @@ measured s j t is h l = record { size-is = h; jumps-are = counted j (l .few) ∙
     counted (suc (suc j)) g = absurd (omega (arith, g))
 
 -- no target
-nothing : (l : List ℕ) → length l ≤ 0 → [] ≡ l
-nothing [] h = refl
-nothing (a ∷ l) h = absurd (omega (arith, h))
-
 pub lists-none : (is : Code) → length (targetsOf is) ≤ 0 → Lists 0 0 is
-lists-none is h = record { few = omega arith; targets = nothing (targetsOf is) h }
+lists-none is h = record { few = omega arith; targets = sym (empty (targetsOf is) h) }
 
 pub alu-none : (o : AluOp) (w : Width) (s : Source) (i : Insn) → length (targetsOf (aluCode o w s i)) ≤ 0
 alu-none o w Imm i = omega arith
@@ -80,7 +77,7 @@ guarded o w slot i =
     let s = regOf (i .src) in
     let d = regOf (i .dst) in
     let operand = op (alu MOV W64 s RCX) ∷ [] in
-    sym (targets-append (guard o slot w s d) (computed o w operand d) ∙ rw (← nothing (targetsOf (computed o w operand d)) (computed-none o w operand d (omega arith))) (append-nil (targetsOf (guard o slot w s d))))
+    sym (targets-append (guard o slot w s d) (computed o w operand d) ∙ rw (empty (targetsOf (computed o w operand d)) (computed-none o w operand d (omega arith))) (append-nil (targetsOf (guard o slot w s d))))
 
 pub mul-lists : (w : Width) (slot : ℕ) (i : Insn) → Lists 0 0 (mulDivModCode Mul w Reg slot i)
 mul-lists w slot i = record { few = omega arith; targets = guarded Mul w slot i }

@@ -9,7 +9,7 @@ use ebpf::insn::Insn;
 use ebpf::kind::Kind;
 use ebpf::kind::MulOp;
 use ebpf::kind::Source;
-use slots::emission;
+use recording::emission;
 
 // How many there are, 0 or 1, and where it goes.
 pub struct Listed {

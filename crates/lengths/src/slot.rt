@@ -15,7 +15,7 @@ use ebpf::insn::Insn;
 use ebpf::kind::Kind;
 use ebpf::kind::MulOp;
 use ebpf::kind::Source;
-use slots::register;
+use recording::register;
 
 // Arithmetic, and the comparison ahead of a jump.
 fn operands_length(width: Width, source: Source, i: Insn) -> usize

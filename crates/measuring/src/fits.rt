@@ -13,7 +13,7 @@ use base::Slot;
 use ebpf::insn;
 use ebpf::kind;
 use jit::Helper;
-use slots::emission;
+use recording::emission;
 use walk::step;
 
 // What a look at a slot finds: a doubt, or a slot that is translated: to 14 bytes at most, to 42 (division and calls), or with the next
@@ -96,18 +96,24 @@ fn look_at(
         return Glance::Doubtful;
     }
     match kind::number_in(kinds, prog[at]) {
+        // unknown, and not implemented
         0 => Glance::Doubtful,
         1 => Glance::Doubtful,
+        // a wide load
         4 => {
             if slot.number + 1 < n {
                 return Glance::Wide;
             }
             Glance::Doubtful
         }
+        // multiplication and division
         11 => Glance::Long,
+        // BE
         14 => narrow_if(step::swap_bits(insn::read_i32(prog, at + 4))),
+        // JA, and the jumps with a condition
         15 => narrow_if(reaches(n, slot, insn::offset_at(prog, at + 2))),
         16 => narrow_if(reaches(n, slot, insn::offset_at(prog, at + 2))),
+        // CALL
         17 => long_if(calls(
             ids,
             addresses,

@@ -469,7 +469,7 @@ leaves-known p g f u F t k =
     known-append (news p F) (keep (keysOf p) (quiet p) F) (puts l g) f′ (news-known p g f u F t k)
     (rw (keys-of p g u) at (keep-known l (quiet p) g f f′ (quiet-of p g f u) F k))
 
-rd-lt : (w : Width) (g : Regs) (r : ℕ) → rd w g r < 2 ^ bits w
+pub rd-lt : (w : Width) (g : Regs) (r : ℕ) → rd w g r < 2 ^ bits w
 unfolding rd
 rd-lt W32 g r = omega arith
 rd-lt W64 g r = omega arith

@@ -18,6 +18,7 @@ use Rattle.base.specs.declared.Size.{Size}
 use Rattle.base.specs.declared.Size.the-variants.{S8, S16, S32, S64}
 use Rattle.x86.specs.Registers.{RAX}
 use Rattle.x86.specs.Instr.{Alu, ADD, OR, AND, SUB, XOR, CMP, MOV, TEST, Shift, SHL, SHR, SAR, Unary, NEG, MUL, DIV, Plain, push, pop, alu, aluImm, shiftImm, shiftCl, unary, movabs, rol16, bswap, load, store, storeImm, WfPlain}
+use Rattle.processor.specs.Facts.{rd-lt}
 use Rattle.processor.specs.Machine.{Regs, bits, rd, put, puts, Set, Input, extended, negative, result, aluSets, counted, inCl, shifted, rolled, swapped, swapBytes, dividend, divides, sizeBits, unarySets, unaryFaults, setsOf, faultsOf}
 
 -- the results of an operation, at its width
@@ -88,11 +89,6 @@ swapped-lt : (w : Width) (x : ℕ) → swapped (swapBytes w) x < 2 ^ bits w
 unfolding swapped
 swapped-lt W32 x = omega arith
 swapped-lt W64 x = omega arith
-
-rd-lt : (w : Width) (g : Regs) (r : ℕ) → rd w g r < 2 ^ bits w
-unfolding rd
-rd-lt W32 g r = omega arith
-rd-lt W64 g r = omega arith
 
 -- the upper half of a product
 upper-lt : (w : Width) (a b : ℕ) → a < 2 ^ bits w → b < 2 ^ bits w → a * b / 2 ^ bits w < 2 ^ bits w

@@ -12,7 +12,7 @@ use Rattle.base.specs.Tests.{true-T}
 use Rattle.base.specs.declared.Width.{Width}
 use Rattle.base.specs.declared.Width.the-variants.{W32, W64}
 use Rattle.x86.specs.Instr.{Instr}
-use Rattle.x86.specs.Decode.{Read, bad, got, Next, number, Rex, noRex, rexOf, withRex, Operand, inRegister, inMemory, signed8, withModrm, opcode, opcode16, decode}
+use Rattle.x86.specs.Decode.{Read, bad, got, Next, number, Rex, noRex, rexOf, withRex, Operand, inRegister, inMemory, withModrm, opcode, opcode16, decode}
 use Rattle.instructions.specs.declared.Read as D
 use Rattle.instructions.specs.declared.Instruction.{Instruction}
 use Rattle.encoding.specs.Bytes.{drop-end}

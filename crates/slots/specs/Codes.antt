@@ -1,18 +1,14 @@
--- The numbers that the handlers write for what the definitions name: registers, opcodes, immediates.
+-- The numbers that the handlers write for what the definitions name: opcodes and immediates.
 -- Assumes nothing.
 use mathlib.Core.Path.{_≡_, refl, ap}
 use mathlib.Core.Bool.{Bool, true, false}
 use mathlib.Core.List.{List, [], _∷_, _++_}
-use Prim.Native.Nat.{ℕ, _+_, _*_, _/_, _%_, _^_, _<_, _≤_}
+use Prim.Native.Nat.{ℕ, _+_, _*_, _/_, _%_, _^_, _<_}
 use native.Mathlib.Omega.{arith}
-use borrow.Author.Tests.{lt-ltb, le-ltb}
 use Rattle.base.specs.Pick.{pick}
-use Rattle.base.specs.Table.{agree}
-use Rattle.base.specs.Tests.{eqb-true, eqb-false}
 use Rattle.base.specs.declared.Size.{Size}
 use Rattle.base.specs.declared.Size.the-variants.{S8, S16, S32, S64}
 use Rattle.base.specs.declared.Width.{Width}
-use Rattle.base.specs.declared.Width.the-variants.{W64}
 use Rattle.ebpf.specs.declared.insn.Insn.{Insn}
 use Rattle.ebpf.specs.declared.kind.Source.{Source}
 use Rattle.ebpf.specs.declared.kind.Source.the-variants.{Imm, Reg}
@@ -22,16 +18,11 @@ use Rattle.ebpf.specs.declared.kind.AluOp.the-variants.{Add, Sub, Or, And, Xor}
 use Rattle.ebpf.specs.declared.kind.Condition.{Condition}
 use Rattle.ebpf.specs.declared.kind.Condition.the-variants.{Jeq, Jgt, Jge, Jset, Jne, Jsgt, Jsge, Jlt, Jle, Jslt, Jsle}
 use Rattle.x86.specs.Registers.{RBX, R13, R14, R15}
-use Rattle.x86.specs.Instr.{immBits, op, push, pop, aluImm, movabs, storeImm, MOV, TEST, CMP}
-use Rattle.x86.specs.Encode.{aluImmOpcode, immBytes, encodePlain, prefix66, rex, rexBits, wideSize, storeImmOpcode, memory}
-use Rattle.x86.specs.Code.{size, targetsOf}
-use Rattle.jit.specs.MulDivMod.{Code, divByZero}
-use Rattle.jit.specs.Slots.{regOf, aluOf, testOf, loadImm, aluCode, shiftCode, movCode}
-
--- REGISTER_MAP in one number
-pub register : (r : ℕ) → r < 11 → (0x5fed3892670 / 2 ^ (r % 16 * 4)) % 16 ≡ regOf r
-unfolding regOf
-register r h = agree (λ r. (0x5fed3892670 / 2 ^ (r % 16 * 4)) % 16) regOf 11 refl r h
+use Rattle.x86.specs.Instr.{immBits, op, push, pop, storeImm, TEST, CMP}
+use Rattle.x86.specs.Encode.{aluImmOpcode, immBytes, encodePlain, prefix66, rex, wideSize, storeImmOpcode, memory}
+use Rattle.x86.specs.Code.{targetsOf}
+use Rattle.jit.specs.MulDivMod.{Code}
+use Rattle.jit.specs.Slots.{aluOf, testOf, aluCode, shiftCode, movCode}
 
 -- the five operations have one opcode with an immediate
 pub alu-imm : (o : AluOp) → aluImmOpcode (aluOf o) ≡ 0x81
@@ -40,15 +31,6 @@ alu-imm Sub = refl
 alu-imm Or = refl
 alu-imm And = refl
 alu-imm Xor = refl
-
--- a constant, by its range
-pub load-short : (dst value : ℕ) → (value + 2 ^ 31) % 2 ^ 64 < 2 ^ 32 → aluImm MOV W64 dst (value % 2 ^ 32) ≡ loadImm dst value
-unfolding loadImm
-load-short dst value h = rw (lt-ltb _ _ h)
-
-pub load-long : (dst value : ℕ) → 2 ^ 32 ≤ (value + 2 ^ 31) % 2 ^ 64 → movabs dst value ≡ loadImm dst value
-unfolding loadImm
-load-long dst value h = rw (le-ltb _ _ h)
 
 -- of an immediate as much is stored as the size takes
 pub trimmed : (z : Size) (base disp imm : ℕ) → imm < 2 ^ 32 → encodePlain (storeImm z base disp imm) ≡ encodePlain (storeImm z base disp (imm % 2 ^ immBits z))
@@ -64,15 +46,6 @@ trimmed z base disp imm h =
         rw (a, b)
     by S32 = let a : imm % 4294967296 ≡ imm = omega arith in rw a
     by S64 = let a : imm % 4294967296 ≡ imm = omega arith in rw a
-
--- what division skips: the xor, which has a REX prefix from R8 on, and the jump
-pub skip-low : (slot dst : ℕ) → dst < 8 → 7 ≡ size (divByZero slot dst)
-unfolding rex
-skip-low slot dst h = rw (eqb-true (rexBits 0 dst dst) 0 (omega arith))
-
-pub skip-high : (slot dst : ℕ) → 8 ≤ dst → 8 ≡ size (divByZero slot dst)
-unfolding rex
-skip-high slot dst h = rw (eqb-false (rexBits 0 dst dst) 0 (λ e. omega arith))
 
 -- the conditions that test bits
 abbrev pub tests : Condition → Bool

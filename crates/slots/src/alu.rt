@@ -7,13 +7,13 @@ ghost use Rattle.x86.specs.Code.{blanks};
 ghost use Rattle.x86.specs.Encode.{aluOpcode, aluExtension, shiftExtension};
 ghost use Rattle.emit.specs.Wrote.{Wrote};
 ghost use Rattle.jit.specs.Slots.{slotCode, aluOf, shiftOf, aluCode, shiftCode, movCode, swap, regOf};
-use crate::register;
 use base::Position;
 use base::Width;
 use ebpf::insn::Insn;
 use ebpf::kind::AluOp;
 use ebpf::kind::ShiftOp;
 use ebpf::kind::Source;
+use recording::register;
 
 fn alu_opcode(op: AluOp) -> u8
     ensures { λ r. ⌜ r ≡ aluOpcode (aluOf op) ⌝ }

@@ -8,17 +8,17 @@ ghost use Rattle.x86.specs.Encode.{condNumber, aluOpcode, aluImmOpcode, aluExte
 ghost use Rattle.emit.specs.Wrote.{Wrote};
 ghost use Rattle.jit.specs.Slots.{slotCode, condOf, testOf, compare, jumpCode, helperCall, localCall, callCode, targetOf};
 ghost use Rattle.slots.specs.Codes.{tests, callSaves, callRestores};
-ghost use Rattle.slots.specs.Emits.{Emits, Room};
-use crate::emission;
-use crate::emission::Emission;
+ghost use Rattle.recording.specs.Emits.{Emits, Room};
 use crate::load;
-use crate::register;
 use base::Position;
 use base::Slot;
 use base::Width;
 use ebpf::insn::Insn;
 use ebpf::kind::Condition;
 use ebpf::kind::Source;
+use recording::emission;
+use recording::emission::Emission;
+use recording::register;
 
 pub fn emit_ja(
     code: &mut [u8],

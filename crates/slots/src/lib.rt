@@ -1,7 +1,4 @@
-// The handlers: what each kind of slot writes, and how long that is. One file for each class of the bytecode.
+// The handlers: what each kind of slot writes. One file for each class of the bytecode; division has a crate of its own.
 pub mod alu;
-pub mod emission;
 pub mod jump;
 pub mod load;
-pub mod muldivmod;
-pub mod register;

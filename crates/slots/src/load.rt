@@ -7,11 +7,11 @@ ghost use Rattle.x86.specs.Code.{blanks};
 ghost use Rattle.x86.specs.Encode.{encodePlain};
 ghost use Rattle.emit.specs.Wrote.{Wrote};
 ghost use Rattle.jit.specs.Slots.{slotCode, loadImm};
-use crate::register;
 use base::Position;
 use base::Size;
 use base::Width;
 use ebpf::insn::Insn;
+use recording::register;
 
 // R10 is a constant pointer to the packet.
 pub fn emit_ld_abs(code: &mut [u8], at: Position, size: Size, i: Insn) -> Position

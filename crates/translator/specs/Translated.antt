@@ -22,7 +22,8 @@ use Rattle.resolving.specs.Resolve.{fields-inside}
 use Rattle.judging.specs.Sizes.{Sizes, begins, sizes-begin}
 use Rattle.judging.specs.declared.verdict.Verdict.{Verdict}
 use Rattle.walk.specs.Acceptable.{Acceptable}
-use Rattle.slots.specs.Emits.{Emits, sets-append}
+use Rattle.base.specs.Lists.{empty, sets-append}
+use Rattle.recording.specs.Emits.{Emits}
 use Rattle.writing.specs.Writes.{Holds, Writes, Fitting}
 use Rattle.translator.specs.declared.translate.Answer.{Answer}
 use Rattle.translator.specs.declared.translate.Answer.the-variants.{Accepted, Refused}
@@ -117,12 +118,8 @@ pub record Ended (n end jumps : ℕ) (c c′ l l′ f t : List ℕ) : Type 0 whe
 one-list : (g : Flags) (bs : List Block) → (prologue g ++ flat bs) ++ epilogue ≡ whole g bs
 one-list g bs = append-assoc (prologue g) (flat bs) epilogue
 
-none : (l : List ℕ) → length l ≡ 0 → l ≡ []
-none [] h = refl
-none (a ∷ l) h = absurd (omega (arith, h))
-
 no-fields-after : (p : ℕ) → fieldsOf p epilogue ≡ []
-no-fields-after p = none (fieldsOf p epilogue) (length-fields p epilogue ∙ rw (epilogue-targets))
+no-fields-after p = empty (fieldsOf p epilogue) (omega (arith, length-fields p epilogue, ap length epilogue-targets))
 
 all-fields : (g : Flags) (bs : List Block) → fieldsOf 0 (prologue g ++ flat bs) ≡ fieldsOf 0 (whole g bs)
 all-fields g bs =

@@ -12,7 +12,7 @@ use jit::Refusal;
 use judging::judge;
 use judging::sizes;
 use judging::verdict::Verdict;
-use slots::emission::Emission;
+use recording::emission::Emission;
 
 pub enum Answer {
     Accepted { length: usize, jumps: usize },

@@ -8,10 +8,10 @@ use Prim.Native.Nat.{ℕ, zero, suc, _+_, _-_, _≤_, _<_, max, min}
 use Prim.Native.Char.{code}
 use Prim.Native.String.{String, [] as none, _∷_ as _⊳_}
 use native.Mathlib.Omega.{arith}
-use native.Mathlib.Nat.{add-zero}
 use lib.Dec.{leb, leb→le}
 use lib.ListN.{length, length-append, take, drop, set, getD, replicate}
 use lib.Seq.{sets, length-sets, set-out, take-set-le, drop-set-lt, drop-cons}
+use Rattle.base.specs.Lists.{sets-append}
 use Rattle.base.specs.Tests.{true-T, leb-no}
 
 -- the codes of a text's characters
@@ -27,13 +27,6 @@ pub record Says (l l′ : List ℕ) (at r : ℕ) (ys : List ℕ) : Type 0 where
 sets-out : (l ys : List ℕ) (i : ℕ) → length l ≤ i → sets l i ys ≡ l
 sets-out l [] i h = refl
 sets-out l (y ∷ ys) i h = ap (λ (t : List ℕ). sets t (suc i) ys) (set-out l i y h) ∙ sets-out l ys (suc i) (omega arith)
-
--- two runs of stores are one
-sets-append : (l xs ys : List ℕ) (i : ℕ) → sets l i (xs ++ ys) ≡ sets (sets l i xs) (i + length xs) ys
-sets-append l [] ys i = ap (λ (k : ℕ). sets l k ys) (sym (add-zero i))
-sets-append l (x ∷ xs) ys i =
-    let e : suc i + length xs ≡ i + suc (length xs) = omega arith in
-    sets-append (set l i x) xs ys (suc i) ∙ ap (λ (k : ℕ). sets (sets (set l i x) (suc i) xs) k ys) e
 
 -- the next text starts where the one before it ends, or where both are past the end
 sets-from : (l xs ys : List ℕ) (at r : ℕ) → r ≡ max at (min (at + length xs) (length l)) → sets (sets l at xs) r ys ≡ sets (sets l at xs) (at + length xs) ys
@@ -58,7 +51,7 @@ pub then : {l l₁ l₂ : List ℕ} {at r₁ r₂ : ℕ} {xs ys : List ℕ} → 
 then {l} {l₁} {l₂} {at} {r₁} {r₂} {xs} {ys} p q =
     let n : length l₁ ≡ length l = ap length (p .text) ∙ length-sets l at xs in
     record {
-      text = q .text ∙ ap (λ (t : List ℕ). sets t r₁ ys) (p .text) ∙ sets-from l xs ys at r₁ (p .next) ∙ sym (sets-append l xs ys at);
+      text = q .text ∙ ap (λ (t : List ℕ). sets t r₁ ys) (p .text) ∙ sets-from l xs ys at r₁ (p .next) ∙ sets-append l at xs ys;
       next = omega (arith, length-append xs ys, p .next, q .next, n);
     }
 

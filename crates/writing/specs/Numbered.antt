@@ -26,7 +26,7 @@ use Rattle.jit.specs.SlotSize.{swap-jumps}
 use Rattle.jit.specs.Translation.{at, Block, blockOf, wideKind, Operand, lacks, has, operandOf, Step, stop, go, taken, known, stepRead, stepAt}
 use Rattle.jit.specs.declared.Refusal.{Refusal}
 use Rattle.slots.specs.Codes.{alu-none, shift-none, mov-none}
-use Rattle.slots.specs.Emits.{empty}
+use Rattle.base.specs.Lists.{empty}
 
 -- what is taken from elsewhere, where it is there
 abbrev pub valueIn : Operand → ℕ

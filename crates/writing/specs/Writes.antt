@@ -18,7 +18,7 @@ use Rattle.x86.specs.Code.{size, size-append, blanks, blanks-append, length-bla
 use Rattle.emit.specs.Wrote.{Wrote, then, nothing}
 use Rattle.jit.specs.Translation.{Block, Step, stop, go, stepAt, Walk, refused, done, joined, slotsWide, within, rest, flat, entries, starts}
 use Rattle.jit.specs.Bounds.{slotsIn, wide-some}
-use Rattle.slots.specs.Emits.{Put, put-none, puts, Emits, Room}
+use Rattle.recording.specs.Emits.{Put, put-none, puts, Emits, Room}
 use Rattle.writing.specs.Numbered.{codeAt, Written, written}
 use Rattle.walk.specs.Sofar.{Sofar, flat-snoc, starts-snoc, begins, stops, sound, goes-on, ends, next-is}
 

@@ -7,13 +7,13 @@ ghost use lib.Seq.{sets};
 ghost use Rattle.x86.specs.Code.{blanks, size};
 ghost use Rattle.emit.specs.Wrote.{Wrote};
 ghost use Rattle.jit.specs.Frame.{saves, keepPacket, packetStart, packetEnd, argument, enter, prologue, epilogue};
-ghost use Rattle.slots.specs.Emits.{Emits, Room};
+ghost use Rattle.recording.specs.Emits.{Emits, Room};
 use base::Position;
 use base::Size;
 use base::Width;
 use jit::Flags;
-use slots::emission;
-use slots::emission::Emission;
+use recording::emission;
+use recording::emission::Emission;
 
 // What the caller keeps, push rbp, rbx, r13, r14, r15, which is one word; and the packet's address, mov r10, rdx.
 fn emit_saves(code: &mut [u8], at: usize) -> Position

@@ -4,14 +4,14 @@ ghost use Prim.Native.Nat.{suc, _+_, _/_, _≤_, _<_, _^_};
 ghost use lib.Dec.{eqb};
 ghost use lib.ListN.{length};
 ghost use Rattle.jit.specs.Translation.{entries, rest, slotsWide};
-ghost use Rattle.slots.specs.Emits.{Put};
+ghost use Rattle.recording.specs.Emits.{Put};
 ghost use Rattle.writing.specs.Writes.{Fitting, Writes};
 use crate::slot;
 use base::Position;
 use base::Slot;
 use ebpf::insn;
 use ebpf::kind;
-use slots::emission::Emission;
+use recording::emission::Emission;
 
 // A slot's location entries: its place, and 0 for a second half, which is number 4's alone. The answer is the next slot.
 fn put_slot(locations: &mut [u32], slot: usize, at: usize, number: u8) -> usize

@@ -1,5 +1,5 @@
 use Rattle.jit.specs.Slots.{helperCall}
-use Rattle.slots.specs.Emits.{plainly}
+use Rattle.recording.specs.Emits.{plainly}
 use borrow.Author.Tests.{eq-eqb, ne-eqb}
 use mathlib.Core.Path.{refl}
 use borrow.Author.Needs.{needs}

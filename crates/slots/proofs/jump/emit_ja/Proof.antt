@@ -1,6 +1,6 @@
 use Rattle.x86.specs.Instr.{jmp}
 use mathlib.Core.List.{[]}
-use Rattle.slots.specs.Emits.{jumped}
+use Rattle.recording.specs.Emits.{jumped}
 use mathlib.Core.Path.{refl}
 use Rattle.emit.specs.Wrote.{last}
 use borrow.Author.Needs.{needs}

@@ -1,7 +1,7 @@
 use Rattle.jit.specs.Slots.{compare, condOf}
 use Rattle.x86.specs.Instr.{op, jcc}
 use mathlib.Core.List.{[], _∷_}
-use Rattle.slots.specs.Emits.{jumped}
+use Rattle.recording.specs.Emits.{jumped}
 use mathlib.Core.Path.{refl}
 use Rattle.emit.specs.Wrote.{then, last}
 use borrow.Author.Needs.{needs}

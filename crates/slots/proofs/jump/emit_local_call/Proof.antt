@@ -2,7 +2,7 @@ use Rattle.slots.specs.Codes.{callSaves, callRestores}
 use Rattle.x86.specs.Code.{to, blanks-append, length-blanks}
 use Rattle.x86.specs.Instr.{call, jump}
 use mathlib.Core.List.{[], _∷_, _++_}
-use Rattle.slots.specs.Emits.{jumped, plainly, emits-then}
+use Rattle.recording.specs.Emits.{jumped, plainly, emits-then}
 use mathlib.Core.Path.{refl}
 use native.Mathlib.Omega.{arith}
 use Rattle.emit.specs.Wrote.{then, last}

@@ -1,4 +1,4 @@
-use Rattle.slots.specs.Codes.{load-short, load-long}
+use Rattle.jit.specs.Constants.{load-short, load-long}
 use borrow.Author.Needs.{needs}
 use Rattle.slots.proofs.load.emit_load_imm.Statement.{statement}
 use Rattle.slots.proofs.load.emit_load_imm.Tie as tie

@@ -3,7 +3,7 @@ use Rattle.base.specs.declared.Width.the-variants.{W64}
 use Rattle.x86.specs.Code.{near}
 use Rattle.x86.specs.Instr.{op, alu, aluImm, jump, jmp, call, MOV, SUB}
 use mathlib.Core.List.{[], _∷_}
-use Rattle.slots.specs.Emits.{jumped}
+use Rattle.recording.specs.Emits.{jumped}
 use Rattle.jit.specs.Frame.{enter}
 use Rattle.x86.specs.Encode.{rex, modrm, memory, bare, short}
 use mathlib.Core.Path.{refl}

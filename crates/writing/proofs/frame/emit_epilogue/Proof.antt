@@ -2,7 +2,7 @@ use mathlib.Core.Path.{_∙_}
 use Rattle.base.specs.Bytes.{le64}
 use Rattle.x86.specs.Encode.{rex, modrm}
 use Rattle.jit.specs.Frame.{epilogue}
-use Rattle.slots.specs.Emits.{sets-append}
+use Rattle.base.specs.Lists.{sets-append}
 use borrow.Author.Needs.{needs}
 use Rattle.writing.proofs.frame.emit_epilogue.Statement.{statement}
 use Rattle.writing.proofs.frame.emit_epilogue.Tie as tie

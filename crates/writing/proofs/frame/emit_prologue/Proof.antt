@@ -5,7 +5,7 @@ use Rattle.x86.specs.Code.{blanks, blanks-append, length-blanks, size-append}
 use Rattle.x86.specs.Encode.{rex}
 use Rattle.jit.specs.Frame.{saves, keepPacket, argument, enter, prologue, prologue-parts, no-jumps-before}
 use Rattle.emit.specs.Wrote.{same, then}
-use Rattle.slots.specs.Emits.{plainly, emits-then}
+use Rattle.recording.specs.Emits.{plainly, emits-then}
 use borrow.Author.Needs.{needs}
 use Rattle.writing.proofs.frame.emit_prologue.Statement.{statement}
 use Rattle.writing.proofs.frame.emit_prologue.Tie as tie

@@ -1,6 +1,6 @@
 use Rattle.writing.specs.Numbered.{kind-is, others}
 use Rattle.ebpf.specs.Insn.{readAt}
-use Rattle.slots.specs.Emits.{onwards}
+use Rattle.recording.specs.Emits.{onwards}
 use Rattle.jit.specs.Slots.{slotCode}
 use Rattle.ebpf.specs.declared.kind.Kind.the-variants.{LdDwImm}
 use mathlib.Core.Path.{refl}

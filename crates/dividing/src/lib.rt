@@ -1,0 +1,2 @@
+// The handlers of multiplication, division and modulo: the longest code of all, with the guard of a divisor.
+pub mod muldivmod;
