@@ -195,6 +195,8 @@ pub fn all(measured: Measured, rows: &[Row]) -> Result<(), String> {
                 cases.iter().for_each(|(case, length)| counted(label, case, *length, &mut lent));
                 println!();
             }
+            // A row whose programs are all refused has nothing to time.
+            Measured::Timed if cases.is_empty() => println!("\t0\t0"),
             Measured::Timed => {
                 let (rust, ours) = times(&cases, &mut lent);
                 println!("\t{rust:.0}\t{ours:.0}");

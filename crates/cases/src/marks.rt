@@ -2,8 +2,7 @@
 // own, so that a piece of the page that was moved is seen too.
 ghost use mathlib.Core.Path.{_≡_};
 ghost use mathlib.Core.Bool.{true};
-ghost use Prim.Native.Nat.{ℕ, _<_, _≤_};
-ghost use lib.ListN.{length, getD};
+ghost use Prim.Native.Nat.{_<_};
 ghost use Rattle.cases.specs.Marks.{markAt, tableMarkAt, Marked};
 
 fn mark(i: usize) -> u8

@@ -1,8 +1,6 @@
 // Multiplication, division and modulo: `emit_muldivmod` of the Rust, in its parts. RDX:RAX is what the machine multiplies into and
 // divides; the second operand goes to RCX.
 ghost use mathlib.Core.Path.{_≡_};
-ghost use mathlib.Core.List.{[], _∷_, _++_};
-ghost use mathlib.Core.Bool.{not};
 ghost use Prim.Native.Nat.{_+_, _≤_, _<_, _^_};
 ghost use lib.ListN.{length};
 ghost use Rattle.x86.specs.Code.{blanks};

@@ -1,7 +1,7 @@
 // Arithmetic, moves, shifts, pushes and pops. The Rust has a function for each width; here the width is a parameter.
 ghost use mathlib.Core.Path.{_≡_};
 ghost use mathlib.Core.List.{[], _∷_, _++_};
-ghost use Prim.Native.Nat.{_+_, _*_, _%_, _≤_, _<_, _^_};
+ghost use Prim.Native.Nat.{_+_, _*_, _%_, _≤_, _<_};
 ghost use lib.ListN.{length};
 ghost use Rattle.base.specs.Bytes.{le32};
 ghost use Rattle.x86.specs.Encode.{wide, rex, modrm, encodePlain};

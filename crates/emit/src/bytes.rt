@@ -1,12 +1,12 @@
 // The bytes themselves: `emit_bytes!` and the REX prefix of the Rust. A whole word is stored at once, and what it leaves behind the
 // bytes that are meant is written over by whoever comes next.
 ghost use mathlib.Core.Path.{_≡_};
-ghost use mathlib.Core.List.{[], _∷_, _++_};
+ghost use mathlib.Core.List.{_++_};
 ghost use Prim.Native.Nat.{_+_, _≤_, _<_, _^_};
 ghost use lib.ListN.{length};
 ghost use lib.Seq.{sets};
 ghost use Rattle.base.specs.Bytes.{bytesOf, le32, le64};
-ghost use Rattle.x86.specs.Encode.{rex, rexBits, modrm};
+ghost use Rattle.x86.specs.Encode.{rex, modrm};
 ghost use Rattle.emit.specs.Wrote.{Wrote};
 use base::Position;
 

@@ -1,10 +1,10 @@
 // What ends in a field of four bytes, and the return.
-ghost use Prim.Native.Nat.{_+_, _≤_, _<_};
+ghost use Prim.Native.Nat.{_+_, _≤_};
 ghost use lib.ListN.{length};
-ghost use Rattle.x86.specs.Encode.{encode, condNumber};
+ghost use Rattle.x86.specs.Encode.{encode};
 ghost use Rattle.x86.specs.Instr.{jump, jmp, call, callReg, ret};
 ghost use Rattle.base.specs.Bytes.{le32};
-ghost use mathlib.Core.List.{[], _∷_, _++_};
+ghost use mathlib.Core.List.{_∷_};
 ghost use Rattle.emit.specs.Wrote.{Wrote};
 use crate::bytes;
 use base::Position;

@@ -1,6 +1,6 @@
 // Loads and stores, with the displacement in its shortest form.
 ghost use mathlib.Core.Path.{_≡_};
-ghost use Prim.Native.Nat.{_+_, _≤_, _<_, _^_};
+ghost use Prim.Native.Nat.{_+_, _≤_, _<_};
 ghost use lib.ListN.{length};
 ghost use Rattle.x86.specs.Encode.{bare, short, encodePlain};
 ghost use Rattle.x86.specs.Instr.{load, store, storeImm};

@@ -1,7 +1,6 @@
 // The quick check: is the program accepted for sure? It keeps room for the longest code that each slot can have, and looks at a slot only
 // as far as a refusal could come from. It knows no refusal and its number: where it has a doubt, measuring decides.
 ghost use mathlib.Core.Path.{_≡_};
-ghost use mathlib.Core.Bool.{Bool};
 ghost use Prim.Native.Nat.{suc, _+_, _*_, _/_, _≤_, _<_, _^_};
 ghost use lib.Dec.{leb};
 ghost use lib.ListN.{length};

@@ -1,10 +1,7 @@
 // The measuring pass: every slot is judged and its code's length found before a byte is written, so that a refusal changes nothing.
 ghost use mathlib.Core.Path.{_≡_};
-ghost use mathlib.Core.List.{[], _∷_};
 ghost use Prim.Native.Nat.{suc, _+_, _/_, _≤_, _<_, _^_};
-ghost use lib.Dec.{eqb};
 ghost use lib.ListN.{length};
-ghost use Rattle.base.specs.Pick.{pick};
 ghost use Rattle.jit.specs.Slots.{slotCode};
 ghost use Rattle.jit.specs.Translation.{goodTarget, orElse, badIn, rest, wideKind, slotsWide};
 ghost use Rattle.lengths.specs.Measures.{Measures, targetsIn};

@@ -3,7 +3,7 @@
 // are proved by a walk of their MIR by hand. `onward` and `record_jump` stand above them, by value, so the handlers need no walk.
 ghost use mathlib.Core.Path.{_≡_};
 ghost use Prim.Native.Nat.{_+_, _-_, _≤_, _<_, _^_};
-ghost use lib.ListN.{length, set};
+ghost use lib.ListN.{length};
 ghost use Rattle.jit.specs.Slots.{targetOf};
 ghost use Rattle.recording.specs.Emits.{Recorded};
 use base::Position;

@@ -2,7 +2,7 @@
 // an operator of a refusal says this sentence; it stands here alone.
 ghost use mathlib.Core.Path.{_≡_};
 ghost use Rattle.words.specs.Text.{Says};
-ghost use Rattle.sentences.specs.Sentences.{torn, badRegister, noRoom, targetFrom, badTarget, placeOf, sizeReason, opcodeReason, slotReason, reasonOf, numberedAs, sentenceOf};
+ghost use Rattle.sentences.specs.Sentences.{torn, badRegister, noRoom, targetFrom, badTarget, placeOf, sizeReason, opcodeReason, slotReason, reasonOf, sentenceOf};
 use ebpf::insn::Insn;
 use fields::fields_at;
 use words::form::put_form;

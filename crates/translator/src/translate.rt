@@ -127,8 +127,9 @@ pub fn translate(
                     );
                     let end = e.at.offset;
                     write_end(code, locations, fields, targets, n, end, e.jumps);
+                    let length = end + 16;
                     Answer::Accepted {
-                        length: end + 16,
+                        length: length,
                         jumps: e.jumps,
                     }
                 }

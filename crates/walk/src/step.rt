@@ -1,9 +1,7 @@
 // One slot, read and judged: the number of its refusal, or its kind, its fields and what it takes from elsewhere.
 ghost use mathlib.Core.Path.{_≡_};
-ghost use mathlib.Core.Bool.{Bool};
 ghost use Prim.Native.Nat.{_+_, _<_, _^_};
 ghost use lib.ListN.{length};
-ghost use Rattle.ebpf.specs.Kinds.{numbers};
 ghost use Rattle.ebpf.specs.Insn.{readAt};
 ghost use Rattle.jit.specs.Translation.{helperOf, operandOf, swapBits, wideValue, callValue};
 ghost use Rattle.walk.specs.Steps.{Asks, Steps, operandIs, swapValue};

@@ -1,6 +1,5 @@
 // Numbers into a lent buffer, as text.rt does bytes.
 ghost use mathlib.Core.Path.{_≡_};
-ghost use mathlib.Core.List.{[], _∷_};
 ghost use Prim.Native.Nat.{_≤_, _<_};
 ghost use Rattle.words.specs.Numerals.{numeral, decimal, hex, hexByte, signed, withSign, apart};
 ghost use Rattle.words.specs.Numerals.{extended as Numerals·extended};
