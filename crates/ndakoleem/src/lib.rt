@@ -1,7 +1,7 @@
 // The translator and the sentences as C sees them: the library that `rt staticlib ndakoleem` writes. It only hands on what it is given and
 // puts the answer into a struct of four numbers, since an enum does not pass the boundary. The declarations for C are include/ndakoleem.h.
 ghost use lib.ListN.{length};
-ghost use Rattle.jit.specs.Translation.{Inputs, translationOf};
+ghost use Rattle.jit.specs.Translation.{Inputs};
 ghost use Rattle.ndakoleem.specs.Exported.{Exported};
 ghost use Rattle.sentences.specs.Sentences.{sentenceOf};
 ghost use Rattle.words.specs.Text.{Says};
@@ -31,7 +31,7 @@ pub extern "C" fn ndakoleem_translate(
     fields: &mut [u32],
     targets: &mut [u32],
 ) -> Translation
-    ensures { λ r. ⌜ Exported (translationOf (record { program = now (program .entry); flags = record { «use_mbuff» = «use_mbuff»; «update_data_ptr» = «update_data_ptr» }; ids = now (ids .entry); addresses = now (addresses .entry); page = length (now (code .entry)); locations = length (now (locations .entry)); fields = length (now (fields .entry)); targets = length (now (targets .entry)) })) (now (code .entry)) (now (code .exit)) (now (locations .entry)) (now (locations .exit)) (now (fields .entry)) (now (fields .exit)) (now (targets .entry)) (now (targets .exit)) r ⌝ }
+    ensures { λ r. ⌜ Exported (record { program = now (program .entry); flags = record { «use_mbuff» = «use_mbuff»; «update_data_ptr» = «update_data_ptr» }; ids = now (ids .entry); addresses = now (addresses .entry); page = length (now (code .entry)); locations = length (now (locations .entry)); fields = length (now (fields .entry)); targets = length (now (targets .entry)) }) (now (code .entry)) (now (code .exit)) (now (locations .entry)) (now (locations .exit)) (now (fields .entry)) (now (fields .exit)) (now (targets .entry)) (now (targets .exit)) r ⌝ }
 {
     let flags = Flags {
         use_mbuff: use_mbuff,

@@ -15,11 +15,11 @@ use Rattle.translator.specs.Translated.{Translated}
 use Rattle.translator.specs.declared.translate.Answer.{Answer}
 use Rattle.translator.specs.declared.translate.Answer.the-variants.{Accepted, Refused}
 
-abbrev lengthIn : Answer → ℕ
+abbrev pub lengthIn : Answer → ℕ
 lengthIn (Accepted l j) = l
 lengthIn (Refused r) = 0
 
-abbrev jumpsIn : Answer → ℕ
+abbrev pub jumpsIn : Answer → ℕ
 jumpsIn (Accepted l j) = j
 jumpsIn (Refused r) = 0
 
