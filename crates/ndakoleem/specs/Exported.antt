@@ -85,9 +85,9 @@ module _ (x : Inputs) (given : Given x) {c₀ c₁ l₀ l₁ f₀ f₁ t₀ t₁
   accepted-is-safe (Refused q) h e = absurd (omega (arith, numbered q, e))
 
   -- the struct of an answer's four numbers
-  pub exported : {a : Answer} {number slot length jumps : ℕ} → Translated (translationOf x) c₀ c₁ l₀ l₁ f₀ f₁ t₀ t₁ a
-      → number ≡ numberIn a → slot ≡ slotIn a → length ≡ lengthIn a → jumps ≡ jumpsIn a
-      → Exported x c₀ c₁ l₀ l₁ f₀ f₁ t₀ t₁ (record { number = number; slot = slot; length = length; jumps = jumps })
+  pub exported : {a : Answer} {number slot bytes jumps : ℕ} → Translated (translationOf x) c₀ c₁ l₀ l₁ f₀ f₁ t₀ t₁ a
+      → number ≡ numberIn a → slot ≡ slotIn a → bytes ≡ lengthIn a → jumps ≡ jumpsIn a
+      → Exported x c₀ c₁ l₀ l₁ f₀ f₁ t₀ t₁ (record { number = number; slot = slot; length = bytes; jumps = jumps })
   exported {a} h n s l j =
       record {
         answer = a;
