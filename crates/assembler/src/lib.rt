@@ -5,6 +5,7 @@ ghost use Rattle.words.specs.Text.{Says};
 ghost use Rattle.statements.specs.Statements.{binary};
 ghost use Rattle.assembler.specs.Assembler.{aluText, shiftText, mulText, conditionText, jumpText, kindText, lookupText, highOf, slotText};
 use base::Width;
+use ebpf::constants::INSN_SIZE;
 use ebpf::insn::Insn;
 use ebpf::kind::AluOp;
 use ebpf::kind::Condition;
@@ -130,7 +131,7 @@ fn put_lookup(out: &mut [u8], at: usize, found: Lookup, i: Insn, high: u32) -> u
 fn high_of(prog: &[u8], slot: usize) -> u32
     ensures { λ r. ⌜ r ≡ highOf (now (prog .entry)) slot ⌝ }
 {
-    if slot < prog.len() / 8 {
+    if slot < prog.len() / INSN_SIZE {
         let next = fields_at(prog, slot + 1);
         return next.imm;
     }

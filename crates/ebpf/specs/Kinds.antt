@@ -2,7 +2,7 @@
 -- Assumes nothing.
 use mathlib.Core.Path.{_≡_, _∙_, refl}
 use mathlib.Core.Bool.{Bool, true, false}
-use mathlib.Core.List.{List, [], _∷_}
+use mathlib.Core.List.{List, [], _∷_, map, sum}
 use Prim.Native.Nat.{ℕ, _+_, _<_}
 use native.Mathlib.Omega.{arith}
 use lib.Dec.{ltb}
@@ -148,10 +148,6 @@ unimplemented (Known k) = 0
 unimplemented Unimplemented = 1
 unimplemented Unknown = 0
 
-abbrev sum : (Lookup → ℕ) → List Lookup → ℕ
-sum f [] = 0
-sum f (l ∷ ls) = f l + sum f ls
-
-counts : (sum known (values kindOf 0 256) ≡ 120) × (sum unimplemented (values kindOf 0 256) ≡ 3)
-unfolding kindOf
+counts : (sum _+_ 0 (map known (values kindOf 0 256)) ≡ 120) × (sum _+_ 0 (map unimplemented (values kindOf 0 256)) ≡ 3)
+unfolding kindOf sum
 counts = (refl, refl)

@@ -1,3 +1,5 @@
 pub mod Insn
 pub mod Opcode
 pub mod Kinds
+pub mod Masks
+pub mod Named

@@ -1,17 +1,13 @@
-// The constants of rbpf's ebpf.rs (document 001), under their own names: RFC 9669's fields (section 3) and the opcodes made of
-// them (sections 4 and 5). PROG_MAX_SIZE, LOCAL_FUNCTION_STACK_SIZE and MAX_CALL_DEPTH are 001's too; nothing here uses them.
+// The constants of rbpf's src/ebpf.rs, under their own names: RFC 9669's fields (section 3) and the opcodes made of them (sections 4
+// and 5). Left out are those that nothing here uses.
+ghost use mathlib.Core.Path.{_≡_};
+ghost use Rattle.ebpf.specs.Named.{opcodes};
 
 pub const PROG_MAX_INSNS: usize = 1000000;
 
 pub const INSN_SIZE: usize = 8;
 
-pub const PROG_MAX_SIZE: usize = PROG_MAX_INSNS * INSN_SIZE;
-
 pub const STACK_SIZE: usize = 512;
-
-pub const LOCAL_FUNCTION_STACK_SIZE: u16 = 256;
-
-pub const MAX_CALL_DEPTH: usize = 8;
 
 // Three least significant bits: the class.
 pub const BPF_LD: u8 = 0x00;
@@ -364,3 +360,137 @@ pub const EXIT: u8 = BPF_JMP | BPF_EXIT;
 pub const BPF_CLS_MASK: u8 = 0x07;
 
 pub const BPF_ALU_OP_MASK: u8 = 0xf0;
+
+// Every opcode above, in the same order.
+pub const OPCODES: [u8; 123] = [
+    LD_ABS_B,
+    LD_ABS_H,
+    LD_ABS_W,
+    LD_ABS_DW,
+    LD_IND_B,
+    LD_IND_H,
+    LD_IND_W,
+    LD_IND_DW,
+    LD_DW_IMM,
+    LD_B_REG,
+    LD_H_REG,
+    LD_W_REG,
+    LD_DW_REG,
+    ST_B_IMM,
+    ST_H_IMM,
+    ST_W_IMM,
+    ST_DW_IMM,
+    ST_B_REG,
+    ST_H_REG,
+    ST_W_REG,
+    ST_DW_REG,
+    ST_W_XADD,
+    ST_DW_XADD,
+    ADD32_IMM,
+    ADD32_REG,
+    SUB32_IMM,
+    SUB32_REG,
+    MUL32_IMM,
+    MUL32_REG,
+    DIV32_IMM,
+    DIV32_REG,
+    OR32_IMM,
+    OR32_REG,
+    AND32_IMM,
+    AND32_REG,
+    LSH32_IMM,
+    LSH32_REG,
+    RSH32_IMM,
+    RSH32_REG,
+    NEG32,
+    MOD32_IMM,
+    MOD32_REG,
+    XOR32_IMM,
+    XOR32_REG,
+    MOV32_IMM,
+    MOV32_REG,
+    ARSH32_IMM,
+    ARSH32_REG,
+    LE,
+    BE,
+    ADD64_IMM,
+    ADD64_REG,
+    SUB64_IMM,
+    SUB64_REG,
+    MUL64_IMM,
+    MUL64_REG,
+    DIV64_IMM,
+    DIV64_REG,
+    OR64_IMM,
+    OR64_REG,
+    AND64_IMM,
+    AND64_REG,
+    LSH64_IMM,
+    LSH64_REG,
+    RSH64_IMM,
+    RSH64_REG,
+    NEG64,
+    MOD64_IMM,
+    MOD64_REG,
+    XOR64_IMM,
+    XOR64_REG,
+    MOV64_IMM,
+    MOV64_REG,
+    ARSH64_IMM,
+    ARSH64_REG,
+    JA,
+    JEQ_IMM,
+    JEQ_REG,
+    JGT_IMM,
+    JGT_REG,
+    JGE_IMM,
+    JGE_REG,
+    JLT_IMM,
+    JLT_REG,
+    JLE_IMM,
+    JLE_REG,
+    JSET_IMM,
+    JSET_REG,
+    JNE_IMM,
+    JNE_REG,
+    JSGT_IMM,
+    JSGT_REG,
+    JSGE_IMM,
+    JSGE_REG,
+    JSLT_IMM,
+    JSLT_REG,
+    JSLE_IMM,
+    JSLE_REG,
+    JEQ_IMM32,
+    JEQ_REG32,
+    JGT_IMM32,
+    JGT_REG32,
+    JGE_IMM32,
+    JGE_REG32,
+    JLT_IMM32,
+    JLT_REG32,
+    JLE_IMM32,
+    JLE_REG32,
+    JSET_IMM32,
+    JSET_REG32,
+    JNE_IMM32,
+    JNE_REG32,
+    JSGT_IMM32,
+    JSGT_REG32,
+    JSGE_IMM32,
+    JSGE_REG32,
+    JSLT_IMM32,
+    JSLT_REG32,
+    JSLE_IMM32,
+    JSLE_REG32,
+    CALL,
+    TAIL_CALL,
+    EXIT,
+];
+
+// What holds the constants: specs/Named.antt has the byte of each and the kind that its name says.
+pub fn opcodes() -> [u8; 123]
+    ensures { λ r. ⌜ r ≡ opcodes ⌝ }
+{
+    OPCODES
+}

@@ -3,6 +3,7 @@ ghost use mathlib.Core.Path.{_≡_};
 ghost use Prim.Native.Nat.{_+_, _*_, _≤_, _<_, _^_};
 ghost use lib.ListN.{length};
 ghost use Rattle.ebpf.specs.Insn.{insnAt, readAt, extend, le2, le4};
+use crate::constants::INSN_SIZE;
 use base::Slot;
 
 // The fields of a slot (RFC 9669, section 3.1). `off` is extended to 32 bits; `off` and `imm` are two's complement.
@@ -71,7 +72,7 @@ pub fn insn_at(prog: &[u8], slot: Slot) -> Insn
     requires { ⌜ 8 * slot .number + 8 ≤ length (now prog) ⌝ }
     ensures { λ r. ⌜ r ≡ insnAt (now (prog .entry)) (slot .number) ⌝ }
 {
-    let at = 8 * slot.number;
+    let at = INSN_SIZE * slot.number;
     let registers = prog[at + 1];
     Insn {
         opc: prog[at],
@@ -86,7 +87,7 @@ pub fn insn_at(prog: &[u8], slot: Slot) -> Insn
 pub fn get_insn(prog: &[u8], slot: Slot) -> Read
     ensures { λ r. ⌜ r ≡ readAt (now (prog .entry)) (slot .number) ⌝ }
 {
-    if prog.len() / 8 <= slot.number {
+    if prog.len() / INSN_SIZE <= slot.number {
         return Read::Torn;
     }
     Read::Whole(insn_at(prog, slot))

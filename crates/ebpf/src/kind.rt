@@ -3,6 +3,7 @@ ghost use mathlib.Core.Path.{_≡_};
 ghost use lib.ListN.{getD};
 ghost use Rattle.ebpf.specs.Opcode.{kindOf, sizeOf, sourceOf};
 ghost use Rattle.ebpf.specs.Kinds.{numbers, numbered, widthOf, aluOf, shiftOf, mulOf, conditionOf};
+use crate::constants;
 use base::Size;
 use base::Width;
 
@@ -46,7 +47,7 @@ pub enum Condition {
     Jsle,
 }
 
-// The kinds that are translated, 120 opcodes in all. The names are 001's, less what the fields say.
+// The kinds that are translated, 120 opcodes in all. The names are those of rbpf's src/ebpf.rs, less what the fields say.
 pub enum Kind {
     LdAbs(Size),
     LdInd(Size),
@@ -69,278 +70,318 @@ pub enum Kind {
 
 pub enum Lookup {
     Known(Kind),
-    // ST_W_XADD, ST_DW_XADD, TAIL_CALL: named by 001, and not translated by 000.
+    // ST_W_XADD, ST_DW_XADD, TAIL_CALL: rbpf's src/ebpf.rs names them, and its src/jit.rs does not translate them.
     Unimplemented,
     Unknown,
 }
 
-// An entry is a kind's number, as `kind_numbered` reads it; the fields below it (size, width, source, operation) are the opcode's own.
+// A kind's number; the fields below it (size, width, source, operation) are the opcode's own.
+pub const KIND_UNKNOWN: u8 = 0;
+
+pub const KIND_UNIMPLEMENTED: u8 = 1;
+
+pub const KIND_LD_ABS: u8 = 2;
+
+pub const KIND_LD_IND: u8 = 3;
+
+pub const KIND_LD_DW_IMM: u8 = 4;
+
+pub const KIND_LD_REG: u8 = 5;
+
+pub const KIND_ST_IMM: u8 = 6;
+
+pub const KIND_ST_REG: u8 = 7;
+
+pub const KIND_ALU: u8 = 8;
+
+pub const KIND_SHIFT: u8 = 9;
+
+pub const KIND_NEG: u8 = 10;
+
+pub const KIND_MULDIVMOD: u8 = 11;
+
+pub const KIND_MOV: u8 = 12;
+
+pub const KIND_LE: u8 = 13;
+
+pub const KIND_BE: u8 = 14;
+
+pub const KIND_JA: u8 = 15;
+
+pub const KIND_JUMP: u8 = 16;
+
+pub const KIND_CALL: u8 = 17;
+
+pub const KIND_EXIT: u8 = 18;
+
+// At each opcode its kind's number.
 pub const KINDS: [u8; 256] = [
-    0, // 00
-    0, // 01
-    0, // 02
-    0, // 03
-    8, // 04 ADD32_IMM
-    15, // 05 JA
-    0, // 06
-    8, // 07 ADD64_IMM
-    0, // 08
-    0, // 09
-    0, // 0a
-    0, // 0b
-    8, // 0c ADD32_REG
-    0, // 0d
-    0, // 0e
-    8, // 0f ADD64_REG
-    0, // 10
-    0, // 11
-    0, // 12
-    0, // 13
-    8, // 14 SUB32_IMM
-    16, // 15 JEQ_IMM
-    16, // 16 JEQ_IMM32
-    8, // 17 SUB64_IMM
-    4, // 18 LD_DW_IMM
-    0, // 19
-    0, // 1a
-    0, // 1b
-    8, // 1c SUB32_REG
-    16, // 1d JEQ_REG
-    16, // 1e JEQ_REG32
-    8, // 1f SUB64_REG
-    2, // 20 LD_ABS_W
-    0, // 21
-    0, // 22
-    0, // 23
-    11, // 24 MUL32_IMM
-    16, // 25 JGT_IMM
-    16, // 26 JGT_IMM32
-    11, // 27 MUL64_IMM
-    2, // 28 LD_ABS_H
-    0, // 29
-    0, // 2a
-    0, // 2b
-    11, // 2c MUL32_REG
-    16, // 2d JGT_REG
-    16, // 2e JGT_REG32
-    11, // 2f MUL64_REG
-    2, // 30 LD_ABS_B
-    0, // 31
-    0, // 32
-    0, // 33
-    11, // 34 DIV32_IMM
-    16, // 35 JGE_IMM
-    16, // 36 JGE_IMM32
-    11, // 37 DIV64_IMM
-    2, // 38 LD_ABS_DW
-    0, // 39
-    0, // 3a
-    0, // 3b
-    11, // 3c DIV32_REG
-    16, // 3d JGE_REG
-    16, // 3e JGE_REG32
-    11, // 3f DIV64_REG
-    3, // 40 LD_IND_W
-    0, // 41
-    0, // 42
-    0, // 43
-    8, // 44 OR32_IMM
-    16, // 45 JSET_IMM
-    16, // 46 JSET_IMM32
-    8, // 47 OR64_IMM
-    3, // 48 LD_IND_H
-    0, // 49
-    0, // 4a
-    0, // 4b
-    8, // 4c OR32_REG
-    16, // 4d JSET_REG
-    16, // 4e JSET_REG32
-    8, // 4f OR64_REG
-    3, // 50 LD_IND_B
-    0, // 51
-    0, // 52
-    0, // 53
-    8, // 54 AND32_IMM
-    16, // 55 JNE_IMM
-    16, // 56 JNE_IMM32
-    8, // 57 AND64_IMM
-    3, // 58 LD_IND_DW
-    0, // 59
-    0, // 5a
-    0, // 5b
-    8, // 5c AND32_REG
-    16, // 5d JNE_REG
-    16, // 5e JNE_REG32
-    8, // 5f AND64_REG
-    0, // 60
-    5, // 61 LD_W_REG
-    6, // 62 ST_W_IMM
-    7, // 63 ST_W_REG
-    9, // 64 LSH32_IMM
-    16, // 65 JSGT_IMM
-    16, // 66 JSGT_IMM32
-    9, // 67 LSH64_IMM
-    0, // 68
-    5, // 69 LD_H_REG
-    6, // 6a ST_H_IMM
-    7, // 6b ST_H_REG
-    9, // 6c LSH32_REG
-    16, // 6d JSGT_REG
-    16, // 6e JSGT_REG32
-    9, // 6f LSH64_REG
-    0, // 70
-    5, // 71 LD_B_REG
-    6, // 72 ST_B_IMM
-    7, // 73 ST_B_REG
-    9, // 74 RSH32_IMM
-    16, // 75 JSGE_IMM
-    16, // 76 JSGE_IMM32
-    9, // 77 RSH64_IMM
-    0, // 78
-    5, // 79 LD_DW_REG
-    6, // 7a ST_DW_IMM
-    7, // 7b ST_DW_REG
-    9, // 7c RSH32_REG
-    16, // 7d JSGE_REG
-    16, // 7e JSGE_REG32
-    9, // 7f RSH64_REG
-    0, // 80
-    0, // 81
-    0, // 82
-    0, // 83
-    10, // 84 NEG32
-    17, // 85 CALL
-    0, // 86
-    10, // 87 NEG64
-    0, // 88
-    0, // 89
-    0, // 8a
-    0, // 8b
-    0, // 8c
-    1, // 8d TAIL_CALL
-    0, // 8e
-    0, // 8f
-    0, // 90
-    0, // 91
-    0, // 92
-    0, // 93
-    11, // 94 MOD32_IMM
-    18, // 95 EXIT
-    0, // 96
-    11, // 97 MOD64_IMM
-    0, // 98
-    0, // 99
-    0, // 9a
-    0, // 9b
-    11, // 9c MOD32_REG
-    0, // 9d
-    0, // 9e
-    11, // 9f MOD64_REG
-    0, // a0
-    0, // a1
-    0, // a2
-    0, // a3
-    8, // a4 XOR32_IMM
-    16, // a5 JLT_IMM
-    16, // a6 JLT_IMM32
-    8, // a7 XOR64_IMM
-    0, // a8
-    0, // a9
-    0, // aa
-    0, // ab
-    8, // ac XOR32_REG
-    16, // ad JLT_REG
-    16, // ae JLT_REG32
-    8, // af XOR64_REG
-    0, // b0
-    0, // b1
-    0, // b2
-    0, // b3
-    12, // b4 MOV32_IMM
-    16, // b5 JLE_IMM
-    16, // b6 JLE_IMM32
-    12, // b7 MOV64_IMM
-    0, // b8
-    0, // b9
-    0, // ba
-    0, // bb
-    12, // bc MOV32_REG
-    16, // bd JLE_REG
-    16, // be JLE_REG32
-    12, // bf MOV64_REG
-    0, // c0
-    0, // c1
-    0, // c2
-    1, // c3 ST_W_XADD
-    9, // c4 ARSH32_IMM
-    16, // c5 JSLT_IMM
-    16, // c6 JSLT_IMM32
-    9, // c7 ARSH64_IMM
-    0, // c8
-    0, // c9
-    0, // ca
-    0, // cb
-    9, // cc ARSH32_REG
-    16, // cd JSLT_REG
-    16, // ce JSLT_REG32
-    9, // cf ARSH64_REG
-    0, // d0
-    0, // d1
-    0, // d2
-    0, // d3
-    13, // d4 LE
-    16, // d5 JSLE_IMM
-    16, // d6 JSLE_IMM32
-    0, // d7
-    0, // d8
-    0, // d9
-    0, // da
-    1, // db ST_DW_XADD
-    14, // dc BE
-    16, // dd JSLE_REG
-    16, // de JSLE_REG32
-    0, // df
-    0, // e0
-    0, // e1
-    0, // e2
-    0, // e3
-    0, // e4
-    0, // e5
-    0, // e6
-    0, // e7
-    0, // e8
-    0, // e9
-    0, // ea
-    0, // eb
-    0, // ec
-    0, // ed
-    0, // ee
-    0, // ef
-    0, // f0
-    0, // f1
-    0, // f2
-    0, // f3
-    0, // f4
-    0, // f5
-    0, // f6
-    0, // f7
-    0, // f8
-    0, // f9
-    0, // fa
-    0, // fb
-    0, // fc
-    0, // fd
-    0, // fe
-    0, // ff
+    KIND_UNKNOWN, // 00
+    KIND_UNKNOWN, // 01
+    KIND_UNKNOWN, // 02
+    KIND_UNKNOWN, // 03
+    KIND_ALU, // 04 ADD32_IMM
+    KIND_JA, // 05 JA
+    KIND_UNKNOWN, // 06
+    KIND_ALU, // 07 ADD64_IMM
+    KIND_UNKNOWN, // 08
+    KIND_UNKNOWN, // 09
+    KIND_UNKNOWN, // 0a
+    KIND_UNKNOWN, // 0b
+    KIND_ALU, // 0c ADD32_REG
+    KIND_UNKNOWN, // 0d
+    KIND_UNKNOWN, // 0e
+    KIND_ALU, // 0f ADD64_REG
+    KIND_UNKNOWN, // 10
+    KIND_UNKNOWN, // 11
+    KIND_UNKNOWN, // 12
+    KIND_UNKNOWN, // 13
+    KIND_ALU, // 14 SUB32_IMM
+    KIND_JUMP, // 15 JEQ_IMM
+    KIND_JUMP, // 16 JEQ_IMM32
+    KIND_ALU, // 17 SUB64_IMM
+    KIND_LD_DW_IMM, // 18 LD_DW_IMM
+    KIND_UNKNOWN, // 19
+    KIND_UNKNOWN, // 1a
+    KIND_UNKNOWN, // 1b
+    KIND_ALU, // 1c SUB32_REG
+    KIND_JUMP, // 1d JEQ_REG
+    KIND_JUMP, // 1e JEQ_REG32
+    KIND_ALU, // 1f SUB64_REG
+    KIND_LD_ABS, // 20 LD_ABS_W
+    KIND_UNKNOWN, // 21
+    KIND_UNKNOWN, // 22
+    KIND_UNKNOWN, // 23
+    KIND_MULDIVMOD, // 24 MUL32_IMM
+    KIND_JUMP, // 25 JGT_IMM
+    KIND_JUMP, // 26 JGT_IMM32
+    KIND_MULDIVMOD, // 27 MUL64_IMM
+    KIND_LD_ABS, // 28 LD_ABS_H
+    KIND_UNKNOWN, // 29
+    KIND_UNKNOWN, // 2a
+    KIND_UNKNOWN, // 2b
+    KIND_MULDIVMOD, // 2c MUL32_REG
+    KIND_JUMP, // 2d JGT_REG
+    KIND_JUMP, // 2e JGT_REG32
+    KIND_MULDIVMOD, // 2f MUL64_REG
+    KIND_LD_ABS, // 30 LD_ABS_B
+    KIND_UNKNOWN, // 31
+    KIND_UNKNOWN, // 32
+    KIND_UNKNOWN, // 33
+    KIND_MULDIVMOD, // 34 DIV32_IMM
+    KIND_JUMP, // 35 JGE_IMM
+    KIND_JUMP, // 36 JGE_IMM32
+    KIND_MULDIVMOD, // 37 DIV64_IMM
+    KIND_LD_ABS, // 38 LD_ABS_DW
+    KIND_UNKNOWN, // 39
+    KIND_UNKNOWN, // 3a
+    KIND_UNKNOWN, // 3b
+    KIND_MULDIVMOD, // 3c DIV32_REG
+    KIND_JUMP, // 3d JGE_REG
+    KIND_JUMP, // 3e JGE_REG32
+    KIND_MULDIVMOD, // 3f DIV64_REG
+    KIND_LD_IND, // 40 LD_IND_W
+    KIND_UNKNOWN, // 41
+    KIND_UNKNOWN, // 42
+    KIND_UNKNOWN, // 43
+    KIND_ALU, // 44 OR32_IMM
+    KIND_JUMP, // 45 JSET_IMM
+    KIND_JUMP, // 46 JSET_IMM32
+    KIND_ALU, // 47 OR64_IMM
+    KIND_LD_IND, // 48 LD_IND_H
+    KIND_UNKNOWN, // 49
+    KIND_UNKNOWN, // 4a
+    KIND_UNKNOWN, // 4b
+    KIND_ALU, // 4c OR32_REG
+    KIND_JUMP, // 4d JSET_REG
+    KIND_JUMP, // 4e JSET_REG32
+    KIND_ALU, // 4f OR64_REG
+    KIND_LD_IND, // 50 LD_IND_B
+    KIND_UNKNOWN, // 51
+    KIND_UNKNOWN, // 52
+    KIND_UNKNOWN, // 53
+    KIND_ALU, // 54 AND32_IMM
+    KIND_JUMP, // 55 JNE_IMM
+    KIND_JUMP, // 56 JNE_IMM32
+    KIND_ALU, // 57 AND64_IMM
+    KIND_LD_IND, // 58 LD_IND_DW
+    KIND_UNKNOWN, // 59
+    KIND_UNKNOWN, // 5a
+    KIND_UNKNOWN, // 5b
+    KIND_ALU, // 5c AND32_REG
+    KIND_JUMP, // 5d JNE_REG
+    KIND_JUMP, // 5e JNE_REG32
+    KIND_ALU, // 5f AND64_REG
+    KIND_UNKNOWN, // 60
+    KIND_LD_REG, // 61 LD_W_REG
+    KIND_ST_IMM, // 62 ST_W_IMM
+    KIND_ST_REG, // 63 ST_W_REG
+    KIND_SHIFT, // 64 LSH32_IMM
+    KIND_JUMP, // 65 JSGT_IMM
+    KIND_JUMP, // 66 JSGT_IMM32
+    KIND_SHIFT, // 67 LSH64_IMM
+    KIND_UNKNOWN, // 68
+    KIND_LD_REG, // 69 LD_H_REG
+    KIND_ST_IMM, // 6a ST_H_IMM
+    KIND_ST_REG, // 6b ST_H_REG
+    KIND_SHIFT, // 6c LSH32_REG
+    KIND_JUMP, // 6d JSGT_REG
+    KIND_JUMP, // 6e JSGT_REG32
+    KIND_SHIFT, // 6f LSH64_REG
+    KIND_UNKNOWN, // 70
+    KIND_LD_REG, // 71 LD_B_REG
+    KIND_ST_IMM, // 72 ST_B_IMM
+    KIND_ST_REG, // 73 ST_B_REG
+    KIND_SHIFT, // 74 RSH32_IMM
+    KIND_JUMP, // 75 JSGE_IMM
+    KIND_JUMP, // 76 JSGE_IMM32
+    KIND_SHIFT, // 77 RSH64_IMM
+    KIND_UNKNOWN, // 78
+    KIND_LD_REG, // 79 LD_DW_REG
+    KIND_ST_IMM, // 7a ST_DW_IMM
+    KIND_ST_REG, // 7b ST_DW_REG
+    KIND_SHIFT, // 7c RSH32_REG
+    KIND_JUMP, // 7d JSGE_REG
+    KIND_JUMP, // 7e JSGE_REG32
+    KIND_SHIFT, // 7f RSH64_REG
+    KIND_UNKNOWN, // 80
+    KIND_UNKNOWN, // 81
+    KIND_UNKNOWN, // 82
+    KIND_UNKNOWN, // 83
+    KIND_NEG, // 84 NEG32
+    KIND_CALL, // 85 CALL
+    KIND_UNKNOWN, // 86
+    KIND_NEG, // 87 NEG64
+    KIND_UNKNOWN, // 88
+    KIND_UNKNOWN, // 89
+    KIND_UNKNOWN, // 8a
+    KIND_UNKNOWN, // 8b
+    KIND_UNKNOWN, // 8c
+    KIND_UNIMPLEMENTED, // 8d TAIL_CALL
+    KIND_UNKNOWN, // 8e
+    KIND_UNKNOWN, // 8f
+    KIND_UNKNOWN, // 90
+    KIND_UNKNOWN, // 91
+    KIND_UNKNOWN, // 92
+    KIND_UNKNOWN, // 93
+    KIND_MULDIVMOD, // 94 MOD32_IMM
+    KIND_EXIT, // 95 EXIT
+    KIND_UNKNOWN, // 96
+    KIND_MULDIVMOD, // 97 MOD64_IMM
+    KIND_UNKNOWN, // 98
+    KIND_UNKNOWN, // 99
+    KIND_UNKNOWN, // 9a
+    KIND_UNKNOWN, // 9b
+    KIND_MULDIVMOD, // 9c MOD32_REG
+    KIND_UNKNOWN, // 9d
+    KIND_UNKNOWN, // 9e
+    KIND_MULDIVMOD, // 9f MOD64_REG
+    KIND_UNKNOWN, // a0
+    KIND_UNKNOWN, // a1
+    KIND_UNKNOWN, // a2
+    KIND_UNKNOWN, // a3
+    KIND_ALU, // a4 XOR32_IMM
+    KIND_JUMP, // a5 JLT_IMM
+    KIND_JUMP, // a6 JLT_IMM32
+    KIND_ALU, // a7 XOR64_IMM
+    KIND_UNKNOWN, // a8
+    KIND_UNKNOWN, // a9
+    KIND_UNKNOWN, // aa
+    KIND_UNKNOWN, // ab
+    KIND_ALU, // ac XOR32_REG
+    KIND_JUMP, // ad JLT_REG
+    KIND_JUMP, // ae JLT_REG32
+    KIND_ALU, // af XOR64_REG
+    KIND_UNKNOWN, // b0
+    KIND_UNKNOWN, // b1
+    KIND_UNKNOWN, // b2
+    KIND_UNKNOWN, // b3
+    KIND_MOV, // b4 MOV32_IMM
+    KIND_JUMP, // b5 JLE_IMM
+    KIND_JUMP, // b6 JLE_IMM32
+    KIND_MOV, // b7 MOV64_IMM
+    KIND_UNKNOWN, // b8
+    KIND_UNKNOWN, // b9
+    KIND_UNKNOWN, // ba
+    KIND_UNKNOWN, // bb
+    KIND_MOV, // bc MOV32_REG
+    KIND_JUMP, // bd JLE_REG
+    KIND_JUMP, // be JLE_REG32
+    KIND_MOV, // bf MOV64_REG
+    KIND_UNKNOWN, // c0
+    KIND_UNKNOWN, // c1
+    KIND_UNKNOWN, // c2
+    KIND_UNIMPLEMENTED, // c3 ST_W_XADD
+    KIND_SHIFT, // c4 ARSH32_IMM
+    KIND_JUMP, // c5 JSLT_IMM
+    KIND_JUMP, // c6 JSLT_IMM32
+    KIND_SHIFT, // c7 ARSH64_IMM
+    KIND_UNKNOWN, // c8
+    KIND_UNKNOWN, // c9
+    KIND_UNKNOWN, // ca
+    KIND_UNKNOWN, // cb
+    KIND_SHIFT, // cc ARSH32_REG
+    KIND_JUMP, // cd JSLT_REG
+    KIND_JUMP, // ce JSLT_REG32
+    KIND_SHIFT, // cf ARSH64_REG
+    KIND_UNKNOWN, // d0
+    KIND_UNKNOWN, // d1
+    KIND_UNKNOWN, // d2
+    KIND_UNKNOWN, // d3
+    KIND_LE, // d4 LE
+    KIND_JUMP, // d5 JSLE_IMM
+    KIND_JUMP, // d6 JSLE_IMM32
+    KIND_UNKNOWN, // d7
+    KIND_UNKNOWN, // d8
+    KIND_UNKNOWN, // d9
+    KIND_UNKNOWN, // da
+    KIND_UNIMPLEMENTED, // db ST_DW_XADD
+    KIND_BE, // dc BE
+    KIND_JUMP, // dd JSLE_REG
+    KIND_JUMP, // de JSLE_REG32
+    KIND_UNKNOWN, // df
+    KIND_UNKNOWN, // e0
+    KIND_UNKNOWN, // e1
+    KIND_UNKNOWN, // e2
+    KIND_UNKNOWN, // e3
+    KIND_UNKNOWN, // e4
+    KIND_UNKNOWN, // e5
+    KIND_UNKNOWN, // e6
+    KIND_UNKNOWN, // e7
+    KIND_UNKNOWN, // e8
+    KIND_UNKNOWN, // e9
+    KIND_UNKNOWN, // ea
+    KIND_UNKNOWN, // eb
+    KIND_UNKNOWN, // ec
+    KIND_UNKNOWN, // ed
+    KIND_UNKNOWN, // ee
+    KIND_UNKNOWN, // ef
+    KIND_UNKNOWN, // f0
+    KIND_UNKNOWN, // f1
+    KIND_UNKNOWN, // f2
+    KIND_UNKNOWN, // f3
+    KIND_UNKNOWN, // f4
+    KIND_UNKNOWN, // f5
+    KIND_UNKNOWN, // f6
+    KIND_UNKNOWN, // f7
+    KIND_UNKNOWN, // f8
+    KIND_UNKNOWN, // f9
+    KIND_UNKNOWN, // fa
+    KIND_UNKNOWN, // fb
+    KIND_UNKNOWN, // fc
+    KIND_UNKNOWN, // fd
+    KIND_UNKNOWN, // fe
+    KIND_UNKNOWN, // ff
 ];
 
+// Where rbpf has no mask for a field, its constant with all bits of the field is the mask: BPF_DW, BPF_X.
 pub fn size_of(opc: u8) -> Size
     ensures { λ r. ⌜ r ≡ sizeOf opc ⌝ }
 {
-    match opc / 8 % 4 {
-        0 => Size::S32,
-        1 => Size::S16,
-        2 => Size::S8,
+    match opc & constants::BPF_DW {
+        constants::BPF_W => Size::S32,
+        constants::BPF_H => Size::S16,
+        constants::BPF_B => Size::S8,
         _ => Size::S64,
     }
 }
@@ -348,9 +389,9 @@ pub fn size_of(opc: u8) -> Size
 pub fn width_of(opc: u8) -> Width
     ensures { λ r. ⌜ r ≡ widthOf opc ⌝ }
 {
-    match opc % 8 {
-        5 => Width::W64,
-        7 => Width::W64,
+    match opc & constants::BPF_CLS_MASK {
+        constants::BPF_JMP => Width::W64,
+        constants::BPF_ALU64 => Width::W64,
         _ => Width::W32,
     }
 }
@@ -358,8 +399,8 @@ pub fn width_of(opc: u8) -> Width
 pub fn source_of(opc: u8) -> Source
     ensures { λ r. ⌜ r ≡ sourceOf opc ⌝ }
 {
-    match opc / 8 % 2 {
-        0 => Source::Imm,
+    match opc & constants::BPF_X {
+        constants::BPF_K => Source::Imm,
         _ => Source::Reg,
     }
 }
@@ -367,11 +408,11 @@ pub fn source_of(opc: u8) -> Source
 pub fn alu_of(opc: u8) -> AluOp
     ensures { λ r. ⌜ r ≡ aluOf opc ⌝ }
 {
-    match opc / 16 {
-        0 => AluOp::Add,
-        1 => AluOp::Sub,
-        4 => AluOp::Or,
-        5 => AluOp::And,
+    match opc & constants::BPF_ALU_OP_MASK {
+        constants::BPF_ADD => AluOp::Add,
+        constants::BPF_SUB => AluOp::Sub,
+        constants::BPF_OR => AluOp::Or,
+        constants::BPF_AND => AluOp::And,
         _ => AluOp::Xor,
     }
 }
@@ -379,9 +420,9 @@ pub fn alu_of(opc: u8) -> AluOp
 pub fn shift_of(opc: u8) -> ShiftOp
     ensures { λ r. ⌜ r ≡ shiftOf opc ⌝ }
 {
-    match opc / 16 {
-        6 => ShiftOp::Lsh,
-        7 => ShiftOp::Rsh,
+    match opc & constants::BPF_ALU_OP_MASK {
+        constants::BPF_LSH => ShiftOp::Lsh,
+        constants::BPF_RSH => ShiftOp::Rsh,
         _ => ShiftOp::Arsh,
     }
 }
@@ -389,9 +430,9 @@ pub fn shift_of(opc: u8) -> ShiftOp
 pub fn mul_of(opc: u8) -> MulOp
     ensures { λ r. ⌜ r ≡ mulOf opc ⌝ }
 {
-    match opc / 16 {
-        2 => MulOp::Mul,
-        3 => MulOp::Div,
+    match opc & constants::BPF_ALU_OP_MASK {
+        constants::BPF_MUL => MulOp::Mul,
+        constants::BPF_DIV => MulOp::Div,
         _ => MulOp::Mod,
     }
 }
@@ -399,17 +440,17 @@ pub fn mul_of(opc: u8) -> MulOp
 pub fn condition_of(opc: u8) -> Condition
     ensures { λ r. ⌜ r ≡ conditionOf opc ⌝ }
 {
-    match opc / 16 {
-        1 => Condition::Jeq,
-        2 => Condition::Jgt,
-        3 => Condition::Jge,
-        4 => Condition::Jset,
-        5 => Condition::Jne,
-        6 => Condition::Jsgt,
-        7 => Condition::Jsge,
-        10 => Condition::Jlt,
-        11 => Condition::Jle,
-        12 => Condition::Jslt,
+    match opc & constants::BPF_ALU_OP_MASK {
+        constants::BPF_JEQ => Condition::Jeq,
+        constants::BPF_JGT => Condition::Jgt,
+        constants::BPF_JGE => Condition::Jge,
+        constants::BPF_JSET => Condition::Jset,
+        constants::BPF_JNE => Condition::Jne,
+        constants::BPF_JSGT => Condition::Jsgt,
+        constants::BPF_JSGE => Condition::Jsge,
+        constants::BPF_JLT => Condition::Jlt,
+        constants::BPF_JLE => Condition::Jle,
+        constants::BPF_JSLT => Condition::Jslt,
         _ => Condition::Jsle,
     }
 }
@@ -419,24 +460,28 @@ fn kind_numbered(opc: u8, number: u8) -> Lookup
     ensures { λ r. ⌜ r ≡ numbered opc number ⌝ }
 {
     match number {
-        1 => Lookup::Unimplemented,
-        2 => Lookup::Known(Kind::LdAbs(size_of(opc))),
-        3 => Lookup::Known(Kind::LdInd(size_of(opc))),
-        4 => Lookup::Known(Kind::LdDwImm),
-        5 => Lookup::Known(Kind::LdReg(size_of(opc))),
-        6 => Lookup::Known(Kind::StImm(size_of(opc))),
-        7 => Lookup::Known(Kind::StReg(size_of(opc))),
-        8 => Lookup::Known(Kind::Alu(alu_of(opc), width_of(opc), source_of(opc))),
-        9 => Lookup::Known(Kind::Shift(shift_of(opc), width_of(opc), source_of(opc))),
-        10 => Lookup::Known(Kind::Neg(width_of(opc))),
-        11 => Lookup::Known(Kind::MulDivMod(mul_of(opc), width_of(opc), source_of(opc))),
-        12 => Lookup::Known(Kind::Mov(width_of(opc), source_of(opc))),
-        13 => Lookup::Known(Kind::Le),
-        14 => Lookup::Known(Kind::Be),
-        15 => Lookup::Known(Kind::Ja),
-        16 => Lookup::Known(Kind::Jump(condition_of(opc), width_of(opc), source_of(opc))),
-        17 => Lookup::Known(Kind::Call),
-        18 => Lookup::Known(Kind::Exit),
+        KIND_UNIMPLEMENTED => Lookup::Unimplemented,
+        KIND_LD_ABS => Lookup::Known(Kind::LdAbs(size_of(opc))),
+        KIND_LD_IND => Lookup::Known(Kind::LdInd(size_of(opc))),
+        KIND_LD_DW_IMM => Lookup::Known(Kind::LdDwImm),
+        KIND_LD_REG => Lookup::Known(Kind::LdReg(size_of(opc))),
+        KIND_ST_IMM => Lookup::Known(Kind::StImm(size_of(opc))),
+        KIND_ST_REG => Lookup::Known(Kind::StReg(size_of(opc))),
+        KIND_ALU => Lookup::Known(Kind::Alu(alu_of(opc), width_of(opc), source_of(opc))),
+        KIND_SHIFT => Lookup::Known(Kind::Shift(shift_of(opc), width_of(opc), source_of(opc))),
+        KIND_NEG => Lookup::Known(Kind::Neg(width_of(opc))),
+        KIND_MULDIVMOD => Lookup::Known(Kind::MulDivMod(
+            mul_of(opc),
+            width_of(opc),
+            source_of(opc),
+        )),
+        KIND_MOV => Lookup::Known(Kind::Mov(width_of(opc), source_of(opc))),
+        KIND_LE => Lookup::Known(Kind::Le),
+        KIND_BE => Lookup::Known(Kind::Be),
+        KIND_JA => Lookup::Known(Kind::Ja),
+        KIND_JUMP => Lookup::Known(Kind::Jump(condition_of(opc), width_of(opc), source_of(opc))),
+        KIND_CALL => Lookup::Known(Kind::Call),
+        KIND_EXIT => Lookup::Known(Kind::Exit),
         _ => Lookup::Unknown,
     }
 }

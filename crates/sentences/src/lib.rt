@@ -3,19 +3,19 @@
 ghost use mathlib.Core.Path.{_≡_};
 ghost use Rattle.words.specs.Text.{Says};
 ghost use Rattle.sentences.specs.Sentences.{torn, badRegister, noRoom, targetFrom, badTarget, placeOf, sizeReason, opcodeReason, slotReason, reasonOf, sentenceOf};
+use ebpf::constants::CALL;
+use ebpf::constants::INSN_SIZE;
 use ebpf::insn::Insn;
 use fields::fields_at;
 use words::form::put_form;
 use words::number::extended;
 use words::text::put_text;
 
-const CALL: u8 = 0x85;
-
 fn put_torn(out: &mut [u8], at: usize, prog: &[u8], slot: usize) -> usize
     ensures { λ r. ⌜ Says (now (out .entry)) (now (out .exit)) at r (torn (now (prog .entry)) slot) ⌝ }
 {
-    if prog.len() / 8 <= slot {
-        let left = (prog.len() % 8) as u64;
+    if prog.len() / INSN_SIZE <= slot {
+        let left = (prog.len() % INSN_SIZE) as u64;
         return put_form(out, at, b"only # of its 8 bytes are there", &[left]);
     }
     put_text(out, at, b"a wide load, whose second slot is not all there")
@@ -45,7 +45,7 @@ fn put_bad_register(out: &mut [u8], at: usize, insn: Insn) -> usize
 fn put_no_room(out: &mut [u8], at: usize, prog: &[u8], slot: usize) -> usize
     ensures { λ r. ⌜ Says (now (out .entry)) (now (out .exit)) at r (noRoom (now (prog .entry)) slot) ⌝ }
 {
-    let end = prog.len() / 8;
+    let end = prog.len() / INSN_SIZE;
     if slot == end {
         return put_text(out, at, b"the epilogue runs past the end of the page");
     }
@@ -63,7 +63,7 @@ fn target_from(slot: usize, distance: u32) -> u64
 fn put_bad_target(out: &mut [u8], at: usize, prog: &[u8], slot: usize, insn: Insn) -> usize
     ensures { λ r. ⌜ Says (now (out .entry)) (now (out .exit)) at r (badTarget (now (prog .entry)) slot insn) ⌝ }
 {
-    let end = (prog.len() / 8) as u64;
+    let end = (prog.len() / INSN_SIZE) as u64;
     let opc = insn.opc;
     if opc == CALL {
         let target = target_from(slot, insn.imm);
@@ -98,7 +98,7 @@ fn put_size_reason(out: &mut [u8], at: usize, prog: &[u8], number: u8) -> usize
     ensures { λ r. ⌜ Says (now (out .entry)) (now (out .exit)) at r (sizeReason (now (prog .entry)) number) ⌝ }
 {
     let length = prog.len() as u64;
-    let entries = length / 8 + 1;
+    let entries = (prog.len() / INSN_SIZE) as u64 + 1;
     match number {
         1 => put_text(out, at, b"the page is too short: the least is 4096 bytes"),
         2 => put_text(out, at, b"the page is too long: the most is 131072 bytes"),

@@ -1,3 +1,5 @@
+use borrow.Author.Needs.{needs}
+use Rattle.ebpf.specs.Masks.{times, by-operation}
 use Rattle.ebpf.specs.Kinds.{shifts}
 use Rattle.base.specs.Cases.{rest}
 use Rattle.ebpf.proofs.kind.shift_of.Statement.{statement}
@@ -5,15 +7,15 @@ use Rattle.ebpf.proofs.kind.shift_of.Tie as tie
 
 -- src/kind.rt:138:1
 returns : tie.Need-returns
-returns c = rw (c .match .keys1)
+returns c = by-operation shifts _ (c .before .args .opc) (search needs) (rw (c .match .keys1))
 
 -- src/kind.rt:138:1
 returns-2 : tie.Need-returns-2
-returns-2 c = rw (c .match .keys2)
+returns-2 c = by-operation shifts _ (c .before .args .opc) (search needs) (rw (c .match .keys2))
 
 -- src/kind.rt:138:1
 returns-3 : tie.Need-returns-3
-returns-3 c = rest shifts _ _ (c .match .rest)
+returns-3 c = by-operation shifts _ (c .before .args .opc) (search needs) (rest (times 16 shifts) _ _ (c .match .rest))
 
 pub shift-of-spec : {M : Type 1} → statement M
 shift-of-spec = tie.close (tie.spec returns returns-2 returns-3)

@@ -1,3 +1,5 @@
+use borrow.Author.Needs.{needs}
+use Rattle.ebpf.specs.Masks.{times, by-source}
 use Rattle.ebpf.specs.Opcode.{sources}
 use Rattle.base.specs.Cases.{rest}
 use Rattle.ebpf.proofs.kind.source_of.Statement.{statement}
@@ -5,11 +7,11 @@ use Rattle.ebpf.proofs.kind.source_of.Tie as tie
 
 -- src/kind.rt:117:1
 returns : tie.Need-returns
-returns c = rw (c .match .keys1)
+returns c = by-source sources _ (c .before .args .opc) (search needs) (rw (c .match .keys1))
 
 -- src/kind.rt:117:1
 returns-2 : tie.Need-returns-2
-returns-2 c = rest sources _ _ (c .match .rest)
+returns-2 c = by-source sources _ (c .before .args .opc) (search needs) (rest (times 8 sources) _ _ (c .match .rest))
 
 pub source-of-spec : {M : Type 1} → statement M
 source-of-spec = tie.close (tie.spec returns returns-2)
