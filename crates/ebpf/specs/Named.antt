@@ -24,67 +24,67 @@ use Rattle.ebpf.specs.declared.kind.Lookup.the-variants.{Known, Unimplem
 use Rattle.ebpf.specs.Opcode.{kindOf}
 
 -- names that end in _B, _H, _W, _DW (BPF_B 0x10, BPF_H 0x08, BPF_W 0x00, BPF_DW 0x18), or have that before _REG or _IMM
-abbrev sized : ℕ → (Size → Kind) → List (Arm Lookup)
-sized o k = (o + 0x10) ⇒ Known (k S8) ∷ (o + 0x08) ⇒ Known (k S16) ∷ o ⇒ Known (k S32) ∷ (o + 0x18) ⇒ Known (k S64) ∷ []
+abbrev inSizes : ℕ → (Size → Kind) → List (Arm Lookup)
+inSizes o k = (o + 0x10) ⇒ Known (k S8) ∷ (o + 0x08) ⇒ Known (k S16) ∷ o ⇒ Known (k S32) ∷ (o + 0x18) ⇒ Known (k S64) ∷ []
 
 -- names that end in _IMM, _REG (BPF_K 0x00, BPF_X 0x08)
-abbrev sourced : ℕ → (Source → Kind) → List (Arm Lookup)
-sourced o k = o ⇒ Known (k Imm) ∷ (o + 0x08) ⇒ Known (k Reg) ∷ []
+abbrev inSources : ℕ → (Source → Kind) → List (Arm Lookup)
+inSources o k = o ⇒ Known (k Imm) ∷ (o + 0x08) ⇒ Known (k Reg) ∷ []
 
 -- ADD32_IMM to ARSH32_REG, and with 64; c is the class
-abbrev arithmetic : ℕ → Width → List (Arm Lookup)
-arithmetic c w =
-    sourced (c + 0x00) (Alu Add w)
-    ++ sourced (c + 0x10) (Alu Sub w)
-    ++ sourced (c + 0x20) (MulDivMod Mul w)
-    ++ sourced (c + 0x30) (MulDivMod Div w)
-    ++ sourced (c + 0x40) (Alu Or w)
-    ++ sourced (c + 0x50) (Alu And w)
-    ++ sourced (c + 0x60) (Shift Lsh w)
-    ++ sourced (c + 0x70) (Shift Rsh w)
+abbrev arithmeticNames : ℕ → Width → List (Arm Lookup)
+arithmeticNames c w =
+    inSources (c + 0x00) (Alu Add w)
+    ++ inSources (c + 0x10) (Alu Sub w)
+    ++ inSources (c + 0x20) (MulDivMod Mul w)
+    ++ inSources (c + 0x30) (MulDivMod Div w)
+    ++ inSources (c + 0x40) (Alu Or w)
+    ++ inSources (c + 0x50) (Alu And w)
+    ++ inSources (c + 0x60) (Shift Lsh w)
+    ++ inSources (c + 0x70) (Shift Rsh w)
     ++ (c + 0x80) ⇒ Known (Neg w)
-    ∷ sourced (c + 0x90) (MulDivMod Mod w)
-    ++ sourced (c + 0xa0) (Alu Xor w)
-    ++ sourced (c + 0xb0) (Mov w)
-    ++ sourced (c + 0xc0) (Shift Arsh w)
+    ∷ inSources (c + 0x90) (MulDivMod Mod w)
+    ++ inSources (c + 0xa0) (Alu Xor w)
+    ++ inSources (c + 0xb0) (Mov w)
+    ++ inSources (c + 0xc0) (Shift Arsh w)
 
 -- JEQ_IMM to JSLE_REG, and JEQ_IMM32 to JSLE_REG32
-abbrev conditional : ℕ → Width → List (Arm Lookup)
-conditional c w =
-    sourced (c + 0x10) (Jump Jeq w)
-    ++ sourced (c + 0x20) (Jump Jgt w)
-    ++ sourced (c + 0x30) (Jump Jge w)
-    ++ sourced (c + 0xa0) (Jump Jlt w)
-    ++ sourced (c + 0xb0) (Jump Jle w)
-    ++ sourced (c + 0x40) (Jump Jset w)
-    ++ sourced (c + 0x50) (Jump Jne w)
-    ++ sourced (c + 0x60) (Jump Jsgt w)
-    ++ sourced (c + 0x70) (Jump Jsge w)
-    ++ sourced (c + 0xc0) (Jump Jslt w)
-    ++ sourced (c + 0xd0) (Jump Jsle w)
+abbrev jumpNames : ℕ → Width → List (Arm Lookup)
+jumpNames c w =
+    inSources (c + 0x10) (Jump Jeq w)
+    ++ inSources (c + 0x20) (Jump Jgt w)
+    ++ inSources (c + 0x30) (Jump Jge w)
+    ++ inSources (c + 0xa0) (Jump Jlt w)
+    ++ inSources (c + 0xb0) (Jump Jle w)
+    ++ inSources (c + 0x40) (Jump Jset w)
+    ++ inSources (c + 0x50) (Jump Jne w)
+    ++ inSources (c + 0x60) (Jump Jsgt w)
+    ++ inSources (c + 0x70) (Jump Jsge w)
+    ++ inSources (c + 0xc0) (Jump Jslt w)
+    ++ inSources (c + 0xd0) (Jump Jsle w)
 
 abbrev pub named : List (Arm Lookup)
 named =
     -- LD_ABS_B .. LD_ABS_DW, LD_IND_B .. LD_IND_DW
-    sized 0x20 LdAbs
-    ++ sized 0x40 LdInd
+    inSizes 0x20 LdAbs
+    ++ inSizes 0x40 LdInd
     -- LD_DW_IMM, LD_B_REG .. LD_DW_REG, ST_B_IMM .. ST_DW_IMM, ST_B_REG .. ST_DW_REG
     ++ 0x18 ⇒ Known LdDwImm
-    ∷ sized 0x61 LdReg
-    ++ sized 0x62 StImm
-    ++ sized 0x63 StReg
+    ∷ inSizes 0x61 LdReg
+    ++ inSizes 0x62 StImm
+    ++ inSizes 0x63 StReg
     -- ST_W_XADD, ST_DW_XADD
     ++ 0xc3 ⇒ Unimplemented
     ∷ 0xdb ⇒ Unimplemented
-    ∷ arithmetic 0x04 W32
+    ∷ arithmeticNames 0x04 W32
     -- LE, BE
     ++ 0xd4 ⇒ Known Le
     ∷ 0xdc ⇒ Known Be
-    ∷ arithmetic 0x07 W64
+    ∷ arithmeticNames 0x07 W64
     -- JA
     ++ 0x05 ⇒ Known Ja
-    ∷ conditional 0x05 W64
-    ++ conditional 0x06 W32
+    ∷ jumpNames 0x05 W64
+    ++ jumpNames 0x06 W32
     -- CALL, TAIL_CALL, EXIT
     ++ 0x85 ⇒ Known Call
     ∷ 0x8d ⇒ Unimplemented
@@ -115,6 +115,6 @@ says : values (said named) 0 256 ≡ values (λ o. once (kindOf o)) 0 256
 unfolding kindOf
 says = refl
 
--- THE LAW: an opcode that is not unknown has one name, which says its kind, and an unknown one has none. So the 123 are all different.
+-- THE LAW: an opcode that is not unknown has one name, which says its kind, and an unknown one has none. So no two names have one byte.
 pub named-once : (o : ℕ) → o < 256 → said named o ≡ once (kindOf o)
 named-once o h = agree (said named) (λ o. once (kindOf o)) 256 says o h

@@ -1,5 +1,4 @@
-// The constants of rbpf's src/ebpf.rs, under their own names: RFC 9669's fields (section 3) and the opcodes made of them (sections 4
-// and 5). Left out are those that nothing here uses.
+// Constants of rbpf's src/ebpf.rs, under their own names: RFC 9669's fields (section 3) and the opcodes made of them (sections 4 and 5).
 ghost use mathlib.Core.Path.{_≡_};
 ghost use Rattle.ebpf.specs.Named.{opcodes};
 
@@ -361,7 +360,7 @@ pub const BPF_CLS_MASK: u8 = 0x07;
 
 pub const BPF_ALU_OP_MASK: u8 = 0xf0;
 
-// Every opcode above, in the same order.
+// Every opcode above, in the same order. `opcodes` holds them to specs/Named.antt, which has each byte with the kind that the name says.
 pub const OPCODES: [u8; 123] = [
     LD_ABS_B,
     LD_ABS_H,
@@ -488,7 +487,6 @@ pub const OPCODES: [u8; 123] = [
     EXIT,
 ];
 
-// What holds the constants: specs/Named.antt has the byte of each and the kind that its name says.
 pub fn opcodes() -> [u8; 123]
     ensures { λ r. ⌜ r ≡ opcodes ⌝ }
 {

@@ -1,4 +1,4 @@
-// A slot of the program, taken apart: `Insn` and `get_insn` of rbpf's ebpf.rs.
+// A slot of the program, taken apart: `Insn` and `get_insn` of rbpf's src/ebpf.rs.
 ghost use mathlib.Core.Path.{_≡_};
 ghost use Prim.Native.Nat.{_+_, _*_, _≤_, _<_, _^_};
 ghost use lib.ListN.{length};

@@ -3,7 +3,6 @@ use Rattle.ebpf.specs.Named.{opcodes}
 use Rattle.ebpf.proofs.constants.opcodes.Statement.{statement}
 use Rattle.ebpf.proofs.constants.opcodes.Tie as tie
 
--- src/constants.rt:384:1
 returns : tie.Need-returns
 unfolding opcodes
 returns c = refl
