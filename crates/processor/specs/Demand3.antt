@@ -101,8 +101,8 @@ pub record Lands (x : Inputs) (code : List ℕ) (is : List (Instr ℕ)) (locs : 
   pub bytes : take 4 (drop f code) ≡ le32 field
   pub meant : Meant x code is locs t (follow (f + 4) field)
 
--- A jump that is not listed, ending at e. It is the prologue's call, and goes to the first byte behind the prologue; or the skip of a
--- division, JNE over one instruction and a jump, and goes to the instruction behind that jump, in the same slot.
+-- A jump that is not listed, ending at e. It is the prologue's call, ends 5 bytes before the prologue does, and goes to the first byte
+-- behind it; or the skip of a division, JNE over one instruction and a jump, and goes to the instruction behind that jump, in the same slot.
 pub record Skips (x : Inputs) (j : Jump) (v e : ℕ) (behind : List (Instr ℕ)) : Type 0 where
   pub unequal : j ≡ jcc JNE
   pub clear : Plain
@@ -120,7 +120,7 @@ pub record Skips (x : Inputs) (j : Jump) (v e : ℕ) (behind : List (Instr ℕ))
 
 pub data Unlisted (x : Inputs) (fields : List ℕ) (j : Jump) (v e : ℕ) (behind : List (Instr ℕ)) : Type 0 where
   listed : (k : ℕ) → k < length fields → getD fields k 0 + 4 ≡ e → Unlisted x fields j v e behind
-  entry : j ≡ call → follow e v ≡ size (prologue (x .flags)) → Unlisted x fields j v e behind
+  entry : j ≡ call → e + 5 ≡ size (prologue (x .flags)) → follow e v ≡ size (prologue (x .flags)) → Unlisted x fields j v e behind
   skip : Skips x j v e behind → Unlisted x fields j v e behind
 
 -- The prologue's call, five bytes, stands before the prologue's jump, five more, and goes over it.

@@ -347,7 +347,7 @@ module _ (x : Inputs) (bs : List Block) (is-blocks : blocksOf x ≡ bs) (o : Ori
           let n : size (prologue f) ≡ at + k = ap size s ∙ size-append (r .pre) (jump j (near k) ∷ more) ∙ omega (arith, r .far, five, left) in
           let y = end-lt (r .pre) (jump j (near k)) (r .post) whole-split in
           let m : size (whole f bs) ≡ size (prologue f) + size (flat bs ++ epilogue) = size-append (prologue f) (flat bs ++ epilogue) in
-          entry (call-is j (and-l (isCall j) (eqb k 5 && eqb (size more) 5) t)) (rw (is-near, follow-near at k (omega (arith, n, m))) (sym n))
+          entry (call-is j (and-l (isCall j) (eqb k 5 && eqb (size more) 5) t)) (omega (arith, n, five)) (rw (is-near, follow-near at k (omega (arith, n, m))) (sym n))
 
       -- below the skip: the slot's other instructions, the blocks behind it, the epilogue
       out-skip : (more post : Code) → r .pre ≡ prologue f ++ more → r .post ≡ post ++ epilogue → (b : InBlock bs more j k post)
