@@ -9,7 +9,14 @@ use mathlib.Core.List.{List, [], _∷_, _++_}
 use Prim.Native.Nat.{ℕ, _+_, _-_, _%_, _^_, _≤_, _<_}
 use lib.ListN.{length, getD, take, drop}
 use Rattle.base.specs.Bytes.{le32}
+use Rattle.base.specs.declared.Width.{Width}
 use Rattle.base.specs.declared.Width.the-variants.{W64}
+use Rattle.ebpf.specs.Insn.{insnAt}
+use Rattle.ebpf.specs.Opcode.{kindOf}
+use Rattle.ebpf.specs.declared.kind.Source.the-variants.{Reg}
+use Rattle.ebpf.specs.declared.kind.MulOp.the-variants.{Div}
+use Rattle.ebpf.specs.declared.kind.Kind.the-variants.{MulDivMod}
+use Rattle.ebpf.specs.declared.kind.Lookup.the-variants.{Known}
 use Rattle.x86.specs.Registers.{RSP, RBX, RBP, R13, R14, R15}
 use Rattle.x86.specs.Instr.{Instr, Plain, op, pop, aluImm, ADD, Jump, jmp, call, jcc, JNE, jump, ret}
 use Rattle.x86.specs.Encode.{len}
@@ -102,7 +109,8 @@ pub record Lands (x : Inputs) (code : List ℕ) (is : List (Instr ℕ)) (locs : 
   pub meant : Meant x code is locs t (follow (f + 4) field)
 
 -- A jump that is not listed, ending at e. It is the prologue's call, ends 5 bytes before the prologue does, and goes to the first byte
--- behind it; or the skip of a division, JNE over one instruction and a jump, and goes to the instruction behind that jump, in the same slot.
+-- behind it; or the skip of a division by a register, JNE over one instruction and a jump, and goes to the instruction behind that jump, in
+-- the same slot.
 pub record Skips (x : Inputs) (j : Jump) (v e : ℕ) (behind : List (Instr ℕ)) : Type 0 where
   pub unequal : j ≡ jcc JNE
   pub clear : Plain
@@ -115,6 +123,8 @@ pub record Skips (x : Inputs) (j : Jump) (v e : ℕ) (behind : List (Instr ℕ))
   pub q : ℕ
   pub block : Block
   pub slot : SlotAt x t q block
+  pub width : Width
+  pub divides : kindOf (insnAt (x .program) t .opc) ≡ Known (MulDivMod Div width Reg)
   pub from : q < e
   pub within : follow e v + len next ≤ q + size (block .code)
 

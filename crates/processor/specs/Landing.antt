@@ -7,18 +7,26 @@ use mathlib.Core.Bool.{Bool, true, false, _&&_}
 use mathlib.Core.List.{List, [], _∷_, _++_, append-assoc}
 use Prim.Native.Nat.{ℕ, zero, suc, _+_, _-_, _^_, _<_}
 use native.Mathlib.Omega.{arith}
-use native.Mathlib.Nat.{zero-add}
+use native.Mathlib.Nat.{zero-add, add-zero, add-assoc}
 use lib.Dec.{T, leb, eqb, eqb→eq, leb→le}
 use lib.ListN.{length, getD, take, drop, length-append}
 use lib.Seq.{drop-drop, drop-at, getD-at}
 use Rattle.base.specs.Pick.{pick}
 use Rattle.base.specs.Bytes.{le32}
 use Rattle.base.specs.Tests.{T-true, true-T, and-l, and-r, or-elim, eqb-true}
+use Rattle.base.specs.declared.Width.{Width}
+use Rattle.ebpf.specs.Insn.{insnAt}
+use Rattle.ebpf.specs.Opcode.{kindOf}
+use Rattle.ebpf.specs.declared.kind.Source.the-variants.{Reg}
+use Rattle.ebpf.specs.declared.kind.MulOp.the-variants.{Div}
+use Rattle.ebpf.specs.declared.kind.Kind.the-variants.{MulDivMod}
+use Rattle.ebpf.specs.declared.kind.Lookup.the-variants.{Known}
 use Rattle.x86.specs.Instr.{Instr, op, Jump, jmp, call, jcc, jump, callReg, ret}
 use Rattle.x86.specs.Encode.{jumpOpcode, len}
 use Rattle.x86.specs.Code.{Dest, near, to, field, size, lowered, bytes, codeOf, place, target, fieldsOf, targetsOf, fields-append, length-fields, length-bytes, len-map, size-append}
 use Rattle.jit.specs.Limits.{anchor}
 use Rattle.jit.specs.MulDivMod.{Code}
+use Rattle.jit.specs.Slots.{slotCode}
 use Rattle.jit.specs.Frame.{saves, packetStart, packetEnd, argument, enter, prologue, epilogue}
 use Rattle.jit.specs.Translation.{Inputs, slotsOf, goodTarget, Block, slotsWide, flat, whole, locations, exitOf, placeOf}
 use Rattle.jit.specs.Bounds.{slotsIn, whole-size}
@@ -28,10 +36,10 @@ use Rattle.processor.specs.Placed.{span}
 use Rattle.processor.specs.Reads.{lower, drop-code}
 use Rattle.processor.specs.Demand3.{blocksOf, ExitAt, Meant, slot, exit, first, Lands, Unlisted, listed, entry, skip, Enters, Landing}
 use Rattle.processor.specs.Cells.{follow-to, follow-near}
-use Rattle.processor.specs.Pieces.{nearsIn, near-found, skipsIn, Skip, skip-found}
+use Rattle.processor.specs.Pieces.{nearsIn, near-found, allListed, skipsIn, Skip, skip-found}
 use Rattle.processor.specs.Checked.{Calls}
-use Rattle.processor.specs.NotedCode.{prologue-enters}
-use Rattle.processor.specs.Program.{Origins, Goods, goods-at, never}
+use Rattle.processor.specs.NotedCode.{Skipping, divides, none-skips, slot-skipping, prologue-enters}
+use Rattle.processor.specs.Program.{Origins, OriginIn, OriginsIn, origins-of, Goods, goods-at, never}
 use Rattle.processor.specs.Layout.{block-piece, Found, start, found}
 use Rattle.processor.specs.Layout as layout
 use Rattle.processor.specs.Lowered.{lowered-append, lowered-span, stands-lower}
@@ -192,12 +200,12 @@ prologue-nears f = by (f .use_mbuff) (f .update_data_ptr)
     by true false = tt
     by false b = tt
 
-epilogue-nears : T (nearsIn (λ j k r. false) epilogue)
+epilogue-nears : T (allListed epilogue)
 unfolding epilogue
 epilogue-nears = tt
 
--- a jump of the blocks that is not listed, in its block
-record InBlock (bs : List Block) (pre : Code) (j : Jump) (k : ℕ) (post : Code) : Type 0 where
+-- a jump of the blocks that is not listed, in its block, which is a slot's that divides; the first block is that of slot n
+record InBlock (program : List ℕ) (n : ℕ) (bs : List Block) (pre : Code) (j : Jump) (k : ℕ) (post : Code) : Type 0 where
   ahead : List Block
   block : Block
   behind : List Block
@@ -208,15 +216,33 @@ record InBlock (bs : List Block) (pre : Code) (j : Jump) (k : ℕ) (post : Code)
   inside : block .code ≡ above ++ jump j (near k) ∷ below
   rest : post ≡ below ++ flat behind
   skips : T (skipsIn (block .code))
+  width : Width
+  divides : kindOf (insnAt program (n + slotsIn ahead) .opc) ≡ Known (MulDivMod Div width Reg)
 
-in-block : (n : ℕ) (bs : List Block) → Origins n bs → (pre : Code) (j : Jump) (k : ℕ) (post : Code)
-    → flat bs ≡ pre ++ jump j (near k) ∷ post → InBlock bs pre j k post
-in-block n [] o [] j k post e = let z : _≡_ {A = ℕ} 0 1 = cc in absurd (omega arith)
-in-block n [] o (i ∷ pre) j k post e = let z : _≡_ {A = ℕ} 0 1 = cc in absurd (omega arith)
-in-block n (b ∷ bs) o pre j k post e =
-    by (cut (b .code) (flat bs) pre (jump j (near k)) post e) (λ more h. in-block (n + slotsWide (b .wide)) bs (o .1) more j k post h)
+-- a block with such a jump
+divided : (program : List ℕ) (n : ℕ) (b : Block) → OriginIn program n b → (pre : Code) (j : Jump) (k : ℕ) (post : Code)
+    → b .code ≡ pre ++ jump j (near k) ∷ post
+    → (w : Width) × (kindOf (insnAt program n .opc) ≡ Known (MulDivMod Div w Reg))
+divided program n b o pre j k post e = by (slot-skipping (o .origin .kind) n (o .origin .insn) (o .origin .value))
   where
-    later : (more : Code) → pre ≡ b .code ++ more → InBlock bs more j k post → InBlock (b ∷ bs) pre j k post
+    code : Code
+    code = slotCode (o .origin .kind) n (o .origin .insn) (o .origin .value)
+
+    by : Skipping (o .origin .kind) code → (w : Width) × (kindOf (insnAt program n .opc) ≡ Known (MulDivMod Div w Reg))
+    by (divides w q) = (w, o .looked ∙ rw q)
+    by (none-skips t) = absurd (near-found (λ j k r. false) code pre j k post t (sym (ap (λ (b : Block). b .code) (o .origin .same)) ∙ e))
+
+in-block : (program : List ℕ) (n : ℕ) (bs : List Block) → OriginsIn program n bs → (pre : Code) (j : Jump) (k : ℕ) (post : Code)
+    → flat bs ≡ pre ++ jump j (near k) ∷ post → InBlock program n bs pre j k post
+in-block program n [] o [] j k post e = let z : _≡_ {A = ℕ} 0 1 = cc in absurd (omega arith)
+in-block program n [] o (i ∷ pre) j k post e = let z : _≡_ {A = ℕ} 0 1 = cc in absurd (omega arith)
+in-block program n (b ∷ bs) o pre j k post e =
+    by (cut (b .code) (flat bs) pre (jump j (near k)) post e) (λ more h. in-block program next bs (o .1) more j k post h)
+  where
+    next : ℕ
+    next = n + slotsWide (b .wide)
+
+    later : (more : Code) → pre ≡ b .code ++ more → InBlock program next bs more j k post → InBlock program n (b ∷ bs) pre j k post
     later more p r =
         record {
           ahead = b ∷ r .ahead;
@@ -229,18 +255,37 @@ in-block n (b ∷ bs) o pre j k post e =
           inside = r .inside;
           rest = r .rest;
           skips = r .skips;
+          width = r .width;
+          divides = rw (add-assoc n (slotsWide (b .wide)) (slotsIn (r .ahead))) at (r .divides);
         }
 
     by : Cut (b .code) (flat bs) pre (jump j (near k)) post
-        → ((more : Code) → flat bs ≡ more ++ jump j (near k) ∷ post → InBlock bs more j k post)
-        → InBlock (b ∷ bs) pre j k post
+        → ((more : Code) → flat bs ≡ more ++ jump j (near k) ∷ post → InBlock program next bs more j k post)
+        → InBlock program n (b ∷ bs) pre j k post
     by (left more p q) ih =
-        record { ahead = []; block = b; behind = bs; split = refl; above = pre; below = more; start = refl; inside = p; rest = q; skips = block-piece n b (o .0) .skips }
+        let d = divided program n b (o .0) pre j k more p in
+        record {
+          ahead = [];
+          block = b;
+          behind = bs;
+          split = refl;
+          above = pre;
+          below = more;
+          start = refl;
+          inside = p;
+          rest = q;
+          skips = block-piece n b (o .0 .origin) .skips;
+          width = d .0;
+          divides = rw (add-zero n) (d .1);
+        }
     by (right more p q) ih = later more p (ih more q)
 
 -- All of it, for the blocks of x.
-module _ (x : Inputs) (bs : List Block) (is-blocks : blocksOf x ≡ bs) (o : Origins 0 bs) (short : size (whole (x .flags) bs) < 2 ^ 31)
+module _ (x : Inputs) (bs : List Block) (is-blocks : blocksOf x ≡ bs) (from : OriginsIn (x .program) 0 bs) (short : size (whole (x .flags) bs) < 2 ^ 31)
     (few : length (locations (x .flags) bs) ≡ slotsOf (x .program) + 1) (good : Goods (slotsOf (x .program)) (targetsOf (whole (x .flags) bs))) where
+  o : Origins 0 bs
+  o = origins-of (x .program) 0 bs from
+
   abbrev f : Flags
   f = x .flags
 
@@ -350,7 +395,7 @@ module _ (x : Inputs) (bs : List Block) (is-blocks : blocksOf x ≡ bs) (o : Ori
           entry (call-is j (and-l (isCall j) (eqb k 5 && eqb (size more) 5) t)) (omega (arith, n, five)) (rw (is-near, follow-near at k (omega (arith, n, m))) (sym n))
 
       -- below the skip: the slot's other instructions, the blocks behind it, the epilogue
-      out-skip : (more post : Code) → r .pre ≡ prologue f ++ more → r .post ≡ post ++ epilogue → (b : InBlock bs more j k post)
+      out-skip : (more post : Code) → r .pre ≡ prologue f ++ more → r .post ≡ post ++ epilogue → (b : InBlock (x .program) 0 bs more j k post)
           → Skip j k (b .below) → Out
       out-skip more post p s b d =
           let c = b .block .code in
@@ -385,6 +430,8 @@ module _ (x : Inputs) (bs : List Block) (is-blocks : blocksOf x ≡ bs) (o : Ori
             q = begin;
             block = b .block;
             slot = record { ahead = b .ahead; behind = b .behind; split = is-blocks ∙ b .split; number = refl; place = refl };
+            width = b .width;
+            divides = rw (zero-add (slotsIn (b .ahead))) at (b .divides);
             from = omega (arith, n);
             within = omega (arith, g, n, m, d .far, l);
           })
@@ -396,7 +443,7 @@ module _ (x : Inputs) (bs : List Block) (is-blocks : blocksOf x ≡ bs) (o : Ori
         inFlat : (k : ℕ) → r .dest ≡ near k → (more : Code) → r .pre ≡ prologue f ++ more
             → Cut (flat bs) epilogue more (jump j (near k)) (r .post) → Out
         inFlat k e more p (left post a b) =
-            let c = in-block 0 bs o more j k post a in
+            let c = in-block (x .program) 0 bs from more j k post a in
             out-skip k e more post p b c (skip-found (c .block .code) (c .above) j k (c .below) (c .skips) (c .inside))
         inFlat k e more p (right post a b) = absurd (near-found (λ j k r. false) epilogue post j k (r .post) epilogue-nears b)
 

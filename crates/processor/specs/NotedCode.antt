@@ -20,7 +20,7 @@ use Rattle.ebpf.specs.declared.kind.Kind.{Kind}
 use Rattle.ebpf.specs.declared.kind.Kind.the-variants.{LdAbs, LdInd, LdDwImm, LdReg, StImm, StReg, Alu, Shift, Neg, MulDivMod, Mov, Le, Be, Ja, Jump, Call, Exit}
 use Rattle.x86.specs.Registers.{RAX, RCX, RDX, R9}
 use Rattle.x86.specs.Instr as x86
-use Rattle.x86.specs.Instr.{Base, immBits, push, pop, alu, aluImm, shiftImm, shiftCl, unary, movabs, rol16, bswap, load, jmp, call, jcc, Instr, op, jump, callReg, WfPlain, ADD, OR, AND, SUB, XOR, CMP, MOV, TEST, NEG}
+use Rattle.x86.specs.Instr.{Plain, Base, immBits, push, pop, alu, aluImm, shiftImm, shiftCl, unary, movabs, rol16, bswap, load, jmp, call, jcc, Instr, op, jump, callReg, WfPlain, ADD, OR, AND, SUB, XOR, CMP, MOV, TEST, NEG}
 use Rattle.x86.specs.Encode.{rex}
 use Rattle.x86.specs.Lengths.{plain-most}
 use Rattle.x86.specs.Code.{Dest, to}
@@ -34,7 +34,7 @@ use Rattle.processor.specs.Cells.{instrs}
 use Rattle.processor.specs.Facts.{Fact}
 use Rattle.processor.specs.Notes.{plain, codes, tested, computedNotes, regNotes, immNotes, localNotes, prologueNotes, prologueCells, epilogueCells}
 use Rattle.processor.specs.Checked.{fineNotes, everyRegister, register, Calls, prologue-calls, reg-fine, imm-fine, local-fine}
-use Rattle.processor.specs.Pieces.{Piece, append, none, noted, unnoted, skipsIn, instrs-laid}
+use Rattle.processor.specs.Pieces.{Piece, append, none, noted, unnoted, allListed, skipsIn, instrs-laid}
 
 -- What a slot's numbers are: fields of a slot, and what it takes from elsewhere.
 pub record Numbers (slot : ℕ) (i : Insn) (value : ℕ) : Type 0 where
@@ -286,6 +286,71 @@ slot-piece (Jump c w Reg) slot i value n =
     (alu-piece (testOf c) w (regOf (i .src)) (i .dst) (reg-lt (i .src))) (jump-piece (jcc (condOf c)) (targetOf slot (i .off)))
 slot-piece Call slot i value n = chosen (eqb (i .src) 0) (helperCall value) (localCall (targetOf slot (i .imm))) (helper-piece value (n .wide)) (local-piece (targetOf slot (i .imm)))
 slot-piece Exit slot i value n = unnoted _ tt (tt, tt) tt
+
+-- Only a division by a register has a jump that is not listed.
+pub data Skipping (k : Kind) (c : Code) : Type 0 where
+  divides : (w : Width) → k ≡ MulDivMod Div w Reg → Skipping k c
+  none-skips : T (allListed c) → Skipping k c
+
+computed-listed : (o : MulOp) (w : Width) (operand : Plain) (d : ℕ) → T (allListed (computed o w (op operand ∷ []) (regOf d)))
+computed-listed o w operand d = register (λ r. allListed (computed o w (op operand ∷ []) r)) (by o) d
+  where
+    by : (o : MulOp) → T (everyRegister (λ r. allListed (computed o w (op operand ∷ []) r)))
+    by Mul = tt
+    by Div = tt
+    by Mod = tt
+
+imm-listed : (o : MulOp) (w : Width) (d x : ℕ) → T (allListed (mulDivModImm o w (regOf d) x))
+imm-listed o w d x = by o (eqb x 0)
+  where
+    by : (o : MulOp) (t : Bool) → T (allListed (pick t (byZero o (regOf d)) (computed o w (op (aluImm MOV W64 RCX x) ∷ []) (regOf d))))
+    by Mul true = tt
+    by Div true = tt
+    by Mod true = tt
+    by o false = computed-listed o w (aluImm MOV W64 RCX x) d
+
+by-reg-skipping : (o : MulOp) (w : Width) (slot s d : ℕ) → Skipping (MulDivMod o w Reg) (mulDivModReg o slot w (regOf s) (regOf d))
+by-reg-skipping Mul w slot s d = none-skips (computed-listed Mul w (alu MOV W64 (regOf s) RCX) d)
+by-reg-skipping Div w slot s d = divides w refl
+by-reg-skipping Mod w slot s d = none-skips (computed-listed Mod w (alu MOV W64 (regOf s) RCX) d)
+
+swap-listed : (d bits : ℕ) → T (allListed (swap d bits))
+swap-listed d bits = by (eqb bits 16) (eqb bits 32)
+  where
+    by : (s t : Bool) → T (allListed (pick s (op (rol16 d 8) ∷ op (aluImm AND W32 d 0xffff) ∷ []) (pick t (op (bswap W32 d) ∷ []) (op (bswap W64 d) ∷ []))))
+    by true t = tt
+    by false true = tt
+    by false false = tt
+
+call-listed : (slot : ℕ) (i : Insn) (value : ℕ) → T (allListed (slotCode Call slot i value))
+call-listed slot i value = by (eqb (i .src) 0)
+  where
+    by : (t : Bool) → T (allListed (pick t (helperCall value) (localCall (targetOf slot (i .imm)))))
+    by true = tt
+    by false = tt
+
+pub slot-skipping : (k : Kind) (slot : ℕ) (i : Insn) (value : ℕ) → Skipping k (slotCode k slot i value)
+slot-skipping (LdAbs z) slot i value = none-skips tt
+slot-skipping (LdInd z) slot i value = none-skips tt
+slot-skipping LdDwImm slot i value = none-skips tt
+slot-skipping (LdReg z) slot i value = none-skips tt
+slot-skipping (StImm z) slot i value = none-skips tt
+slot-skipping (StReg z) slot i value = none-skips tt
+slot-skipping (Alu o w Imm) slot i value = none-skips tt
+slot-skipping (Alu o w Reg) slot i value = none-skips tt
+slot-skipping (Shift o w Imm) slot i value = none-skips tt
+slot-skipping (Shift o w Reg) slot i value = none-skips tt
+slot-skipping (Neg w) slot i value = none-skips tt
+slot-skipping (MulDivMod o w Imm) slot i value = none-skips (imm-listed o w (i .dst) (i .imm))
+slot-skipping (MulDivMod o w Reg) slot i value = by-reg-skipping o w slot (i .src) (i .dst)
+slot-skipping (Mov w Imm) slot i value = none-skips tt
+slot-skipping (Mov w Reg) slot i value = none-skips tt
+slot-skipping Le slot i value = none-skips tt
+slot-skipping Be slot i value = none-skips (swap-listed (regOf (i .dst)) (i .imm))
+slot-skipping Ja slot i value = none-skips tt
+slot-skipping (Jump c w s) slot i value = none-skips tt
+slot-skipping Call slot i value = none-skips (call-listed slot i value)
+slot-skipping Exit slot i value = none-skips tt
 
 -- The frame: the same instructions, and their constants.
 pub prologue-same : (f : Flags) → instrs (prologueCells f) ≡ prologue f

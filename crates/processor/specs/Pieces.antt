@@ -74,6 +74,10 @@ near-found P c pre j k post t e = go pre (rw e at t)
     go [] t = and-l (P j k post) (nearsIn P post) t
     go (i ∷ pre) t = go pre (and-r (nearAt P i (pre ++ jump j (near k) ∷ post)) (nearsIn P (pre ++ jump j (near k) ∷ post)) t)
 
+-- every jump is listed
+abbrev pub allListed : Code → Bool
+allListed = nearsIn (λ j k r. false)
+
 abbrev isSkip : Jump → ℕ → Code → Bool
 isSkip j k r = isJne j && behindBoth k r
 

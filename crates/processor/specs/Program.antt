@@ -42,9 +42,14 @@ pub record Origin (slot : ℕ) (b : Block) : Type 0 where
   pub same : b ≡ blockOf kind slot insn value
   pub numbers : Numbers slot insn value
 
-abbrev Comes : ℕ → Step → Type 0
-Comes slot (stop r) = Unit {0}
-Comes slot (go b) = Origin slot b
+-- the slot is the program's: its opcode has that kind
+pub record OriginIn (program : List ℕ) (slot : ℕ) (b : Block) : Type 0 where
+  pub origin : Origin slot b
+  pub looked : kindOf (insnAt program slot .opc) ≡ Known (origin .kind)
+
+abbrev Comes : (program : List ℕ) → ℕ → Step → Type 0
+Comes program slot (stop r) = Unit {0}
+Comes program slot (go b) = OriginIn program slot b
 
 pub never : {A : Type 0} → true ≡ false → A
 never p = let z : _≡_ {A = ℕ} 0 1 = cc in absurd (omega arith)
@@ -83,29 +88,34 @@ module _ (x : Inputs) (given : Given x) where
       by false q ih = ih q
 
   module _ (slot : ℕ) (small : slot < 2 ^ 32) where
-    comes : (k : Kind) (value : ℕ) → value < 2 ^ 64 → Comes slot (go (blockOf k slot (insnAt (x .program) slot) value))
-    comes k value h = record { kind = k; insn = insnAt (x .program) slot; value = value; same = refl; numbers = record { here = small; off = off-lt slot; imm = imm-lt slot; wide = h } }
+    abbrev Looks : Lookup → Type 0
+    Looks l = kindOf (insnAt (x .program) slot .opc) ≡ l
+
+    comes : (k : Kind) (value : ℕ) → value < 2 ^ 64 → Looks (Known k) → Comes (x .program) slot (go (blockOf k slot (insnAt (x .program) slot) value))
+    comes k value h e =
+        let n : Numbers slot (insnAt (x .program) slot) value = record { here = small; off = off-lt slot; imm = imm-lt slot; wide = h } in
+        record { origin = record { kind = k; insn = insnAt (x .program) slot; value = value; same = refl; numbers = n }; looked = e }
 
     abbrev Taken : Kind → Operand → Type 0
-    Taken k o = Comes slot (taken k slot (insnAt (x .program) slot) o)
+    Taken k o = Looks (Known k) → Comes (x .program) slot (taken k slot (insnAt (x .program) slot) o)
 
     taken-wide : (t : Bool)
         → Taken LdDwImm (wideValue slot (insnAt (x .program) slot) (pick t Torn (Whole (insnAt (x .program) (slot + 1)))))
-    taken-wide true = tt
-    taken-wide false = comes LdDwImm _ (omega (arith, imm-lt slot, imm-lt (slot + 1)))
+    taken-wide true e = tt
+    taken-wide false e = comes LdDwImm _ (omega (arith, imm-lt slot, imm-lt (slot + 1))) e
 
     taken-swap : (t : Bool) → Taken Be (pick t (has 0) (lacks (Refusal.BadSwap (record { number = slot }))))
-    taken-swap true = comes Be 0 (omega arith)
-    taken-swap false = tt
+    taken-swap true e = comes Be 0 (omega arith) e
+    taken-swap false e = tt
 
     taken-helper : (h : Helper) → helperOf (x .ids) (x .addresses) (insnAt (x .program) slot .imm) ≡ h → Taken Call (helperValue slot h)
-    taken-helper (Address a) e = comes Call a (helper-lt (x .ids) (x .addresses) _ (given .addresses) a e)
-    taken-helper Missing e = tt
+    taken-helper (Address a) q e = comes Call a (helper-lt (x .ids) (x .addresses) _ (given .addresses) a q) e
+    taken-helper Missing q e = tt
 
     taken-call : (s t : Bool) → Taken Call (pick s (helperValue slot (helperOf (x .ids) (x .addresses) (insnAt (x .program) slot .imm))) (pick t (has 0) (lacks (Refusal.BadCall (record { number = slot })))))
-    taken-call true t = taken-helper (helperOf (x .ids) (x .addresses) (insnAt (x .program) slot .imm)) refl
-    taken-call false true = comes Call 0 (omega arith)
-    taken-call false false = tt
+    taken-call true t e = taken-helper (helperOf (x .ids) (x .addresses) (insnAt (x .program) slot .imm)) refl e
+    taken-call false true e = comes Call 0 (omega arith) e
+    taken-call false false e = tt
 
     taken-kind : (k : Kind) → Taken k (operandOf (x .ids) (x .addresses) k slot (insnAt (x .program) slot) (readAt (x .program) (slot + 1)))
     unfolding readAt
@@ -127,50 +137,58 @@ module _ (x : Inputs) (given : Given x) where
     taken-kind Call = taken-call (eqb (insnAt (x .program) slot .src) 0) (eqb (insnAt (x .program) slot .src) 1)
     taken-kind Exit = comes Exit 0 (omega arith)
 
-    known-comes : (l : Lookup)
-        → Comes slot (known (x .ids) (x .addresses) l slot (insnAt (x .program) slot) (readAt (x .program) (slot + 1)))
-    known-comes Unknown = tt
-    known-comes Unimplemented = tt
-    known-comes (Known k) = taken-kind k
+    known-comes : (l : Lookup) → Looks l
+        → Comes (x .program) slot (known (x .ids) (x .addresses) l slot (insnAt (x .program) slot) (readAt (x .program) (slot + 1)))
+    known-comes Unknown e = tt
+    known-comes Unimplemented e = tt
+    known-comes (Known k) e = taken-kind k e
 
-    registers-comes : (t : Bool) (l : Lookup) → Comes slot (pick t (known (x .ids) (x .addresses) l slot (insnAt (x .program) slot) (readAt (x .program) (slot + 1))) (stop (Refusal.BadRegister (record { number = slot }))))
-    registers-comes true l = known-comes l
-    registers-comes false l = tt
+    registers-comes : (t : Bool) (l : Lookup) → Looks l → Comes (x .program) slot (pick t (known (x .ids) (x .addresses) l slot (insnAt (x .program) slot) (readAt (x .program) (slot + 1))) (stop (Refusal.BadRegister (record { number = slot }))))
+    registers-comes true l e = known-comes l e
+    registers-comes false l e = tt
 
-    step-comes : Comes slot (stepAt (x .program) (x .ids) (x .addresses) slot)
+    step-comes : Comes (x .program) slot (stepAt (x .program) (x .ids) (x .addresses) slot)
     unfolding stepAt readAt
     step-comes = by (ltb (length (x .program)) (8 * slot + 8))
       where
         by : (t : Bool)
-            → Comes slot (stepRead (x .ids) (x .addresses) slot (pick t Torn (Whole (insnAt (x .program) slot))) (readAt (x .program) (slot + 1)))
+            → Comes (x .program) slot (stepRead (x .ids) (x .addresses) slot (pick t Torn (Whole (insnAt (x .program) slot))) (readAt (x .program) (slot + 1)))
         by true = tt
-        by false = let i = insnAt (x .program) slot in registers-comes (goodRegisters i) (kindOf (i .opc))
+        by false = let i = insnAt (x .program) slot in registers-comes (goodRegisters i) (kindOf (i .opc)) refl
 
 -- All slots.
 abbrev pub Origins : ℕ → List Block → Type 0
 Origins slot [] = Unit {0}
 Origins slot (b ∷ bs) = Origin slot b × Origins (slot + slotsWide (b .wide)) bs
 
-abbrev Came : ℕ → Walk → Type 0
-Came slot (refused r) = Unit {0}
-Came slot (done bs) = Origins slot bs
+abbrev pub OriginsIn : (program : List ℕ) → ℕ → List Block → Type 0
+OriginsIn program slot [] = Unit {0}
+OriginsIn program slot (b ∷ bs) = OriginIn program slot b × OriginsIn program (slot + slotsWide (b .wide)) bs
+
+pub origins-of : (program : List ℕ) (slot : ℕ) (bs : List Block) → OriginsIn program slot bs → Origins slot bs
+origins-of program slot [] o = tt
+origins-of program slot (b ∷ bs) o = (o .0 .origin, origins-of program (slot + slotsWide (b .wide)) bs (o .1))
+
+abbrev Came : (program : List ℕ) → ℕ → Walk → Type 0
+Came program slot (refused r) = Unit {0}
+Came program slot (done bs) = OriginsIn program slot bs
 
 module _ (x : Inputs) (given : Given x) (few : length (x .program) ≤ longestProgram) where
-  came-within : (t : Bool) (slot : ℕ) (b : Block) (w : Walk) → Origin slot b → Came (slot + slotsWide (b .wide)) w
-      → Came slot (within t slot b w)
+  came-within : (t : Bool) (slot : ℕ) (b : Block) (w : Walk) → OriginIn (x .program) slot b → Came (x .program) (slot + slotsWide (b .wide)) w
+      → Came (x .program) slot (within t slot b w)
   came-within true slot b (refused r) h g = tt
   came-within true slot b (done bs) h g = (h, g)
   came-within false slot b w h g = tt
 
-  came-after : (slot place : ℕ) (s : Step) (k : ℕ → ℕ → Walk) → Comes slot s → ((t p : ℕ) → Came t (k t p))
-      → Came slot (after (x .page) slot place s k)
+  came-after : (slot place : ℕ) (s : Step) (k : ℕ → ℕ → Walk) → Comes (x .program) slot s → ((t p : ℕ) → Came (x .program) t (k t p))
+      → Came (x .program) slot (after (x .page) slot place s k)
   came-after slot place (stop r) k h g = tt
   came-after slot place (go b) k h g =
       let next = slot + slotsWide (b .wide) in
       let p = place + size (b .code) in
       came-within (leb p (x .page)) slot b (k next p) h (g next p)
 
-  came-rest : (fuel slot place : ℕ) → Came slot (rest fuel (x .program) (x .ids) (x .addresses) (x .page) slot place)
+  came-rest : (fuel slot place : ℕ) → Came (x .program) slot (rest fuel (x .program) (x .ids) (x .addresses) (x .page) slot place)
   unfolding rest
   came-rest zero slot place = tt
   came-rest (suc fuel) slot place = by (ltb (8 * slot) (length (x .program))) refl (λ t p. came-rest fuel t p)
@@ -178,8 +196,8 @@ module _ (x : Inputs) (given : Given x) (few : length (x .program) ≤ longestPr
       more : ℕ → ℕ → Walk
       more s p = rest fuel (x .program) (x .ids) (x .addresses) (x .page) s p
 
-      by : (t : Bool) → ltb (8 * slot) (length (x .program)) ≡ t → ((t p : ℕ) → Came t (more t p))
-          → Came slot (pick t (after (x .page) slot place (stepAt (x .program) (x .ids) (x .addresses) slot) more) (done []))
+      by : (t : Bool) → ltb (8 * slot) (length (x .program)) ≡ t → ((t p : ℕ) → Came (x .program) t (more t p))
+          → Came (x .program) slot (pick t (after (x .page) slot place (stepAt (x .program) (x .ids) (x .addresses) slot) more) (done []))
       by true e ih = came-after slot place (stepAt (x .program) (x .ids) (x .addresses) slot) more (step-comes x given slot (omega (arith, ltb-true (8 * slot) (length (x .program)) e))) ih
       by false e ih = tt
 
@@ -233,7 +251,7 @@ goods-whole n f bs e =
 pub record Parts (x : Inputs) (code locs fields targets : List ℕ) : Type 0 where
   pub blocks : List Block
   pub walked : walkOf x ≡ done blocks
-  pub origins : Origins 0 blocks
+  pub origins : OriginsIn (x .program) 0 blocks
   pub few : length (locations (x .flags) blocks) ≡ slotsOf (x .program) + 1
   pub short : size (whole (x .flags) blocks) < 2 ^ 31
   pub good : Goods (slotsOf (x .program)) (targetsOf (whole (x .flags) blocks))
@@ -249,7 +267,7 @@ module _ (x : Inputs) (given : Given x) (code locs fields targets : List ℕ) wh
   abbrev f : Flags
   f = x .flags
 
-  parts-blocks : (bs : List Block) → walkOf x ≡ done bs → Origins 0 bs → length code ≤ 86081
+  parts-blocks : (bs : List Block) → walkOf x ≡ done bs → OriginsIn (x .program) 0 bs → length code ≤ 86081
       → firstBad (slotsOf (x .program)) 0 bs ≡ Nowhere
       → accepted f bs ≡ yes code locs fields targets → Parts x code locs fields targets
   parts-blocks bs w o l g e =
@@ -269,7 +287,7 @@ module _ (x : Inputs) (given : Given x) (code locs fields targets : List ℕ) wh
         is-targets = cc;
       }
 
-  parts-finish : (w : Walk) → walkOf x ≡ w → Came 0 w → length code ≤ 86081
+  parts-finish : (w : Walk) → walkOf x ≡ w → Came (x .program) 0 w → length code ≤ 86081
       → finish f (slotsOf (x .program)) (x .page) w ≡ yes code locs fields targets → Parts x code locs fields targets
   parts-finish (refused r) q o l e = refuses e
   parts-finish (done bs) q o l e = by (leb (size (whole f bs)) (x .page)) (firstBad (slotsOf (x .program)) 0 bs) refl e

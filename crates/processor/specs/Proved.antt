@@ -26,7 +26,7 @@ use Rattle.processor.specs.Cells.{Cell, instrs, extent, Place, size-inst
 use Rattle.processor.specs.Flow.{asks, Inv, Safe, run-safe}
 use Rattle.processor.specs.Depth.{exactly, Even, EvenOut, run-even, even-ret}
 use Rattle.processor.specs.Notes.{prologueCells}
-use Rattle.processor.specs.Program.{Goods, Origins, Parts, parts}
+use Rattle.processor.specs.Program.{Goods, Origins, OriginsIn, origins-of, Parts, parts}
 use Rattle.processor.specs.Landing.{landing}
 use Rattle.processor.specs.Lowered.{lowered-append, stands-lower}
 use Rattle.processor.specs.Layout.{pageCells, page-same, page-wf, page-passed, page-extent, flow-label, even-label, page-first, gates, exit-framed, only}
@@ -141,8 +141,11 @@ module _ (f : Flags) (bs : List Block) (o : Origins 0 bs) (short : size (whole f
       }
 
 -- All four.
-module _ (x : Inputs) (bs : List Block) (walked : walkOf x ≡ done bs) (o : Origins 0 bs) (short : size (whole (x .flags) bs) < 2 ^ 31)
+module _ (x : Inputs) (bs : List Block) (walked : walkOf x ≡ done bs) (from : OriginsIn (x .program) 0 bs) (short : size (whole (x .flags) bs) < 2 ^ 31)
     (few : length (locations (x .flags) bs) ≡ slotsOf (x .program) + 1) (good : Goods (slotsOf (x .program)) (targetsOf (whole (x .flags) bs))) where
+  o : Origins 0 bs
+  o = origins-of (x .program) 0 bs from
+
   abbrev f : Flags
   f = x .flags
 
@@ -159,7 +162,7 @@ module _ (x : Inputs) (bs : List Block) (walked : walkOf x ≡ done bs) (o : Ori
   of-blocks =
       record {
         reading = rw is-instructions (reads places (whole f bs) (page-wf f bs o) (prologue f ++ (flat bs ++ restoring)) (ends-in-ret f bs));
-        landing = rw is-instructions (landing x bs is-blocks o short few good);
+        landing = rw is-instructions (landing x bs is-blocks from short few good);
         staying = rw is-instructions (stays f bs o short);
         stack = stack f bs o short;
       }
