@@ -1,5 +1,5 @@
--- The notes pass both checks: by computation, over all registers of the program where they matter. A slot is checked with `stop` behind
--- it, which stands for what may follow: it wants nothing known and nothing pushed.
+-- The code of crate jit, with the notes that it asks for, passes both checks: by computation, over all registers of the program where they
+-- matter. A slot is checked with `stop` behind it, which stands for what may follow: it wants nothing known and nothing pushed.
 -- Assumes nothing.
 use mathlib.Core.Path.{_≡_, ap}
 use mathlib.Core.Bool.{Bool, true, false, _&&_, _||_}
@@ -12,18 +12,20 @@ use Rattle.base.specs.declared.Width.{Width}
 use Rattle.base.specs.declared.Width.the-variants.{W32, W64}
 use Rattle.ebpf.specs.declared.kind.MulOp.{MulOp}
 use Rattle.ebpf.specs.declared.kind.MulOp.the-variants.{Mul, Div, Mod}
-use Rattle.x86.specs.Registers.{RAX, RDX, RBX, RBP, RSI, RDI, R8, R9, R13, R14, R15}
-use Rattle.x86.specs.Instr.{Instr, op, jump, jmp, call, jcc, callReg, ret}
+use Rattle.x86.specs.Registers.{RAX, RCX, RDX, RBX, RBP, RSI, RDI, R8, R9, R13, R14, R15}
+use Rattle.x86.specs.Instr.{Instr, op, aluImm, MOV, jump, jmp, call, jcc, callReg, ret}
 use Rattle.x86.specs.Encode.{rex}
 use Rattle.x86.specs.Code.{Dest, near, to}
 use Rattle.jit.specs.Limits.{anchor}
-use Rattle.jit.specs.Slots.{regOf}
+use Rattle.jit.specs.MulDivMod.{Code, computed, mulDivModReg}
+use Rattle.jit.specs.Slots.{regOf, localCall}
+use Rattle.jit.specs.Frame.{saves, packetStart, packetEnd, argument, enter, prologue, epilogue}
 use Rattle.jit.specs.declared.Flags.{Flags}
 use Rattle.processor.specs.Cells.{Cell, cell, cellLen}
 use Rattle.processor.specs.Placed.{fits}
 use Rattle.processor.specs.Flow.{asks, flowing}
 use Rattle.processor.specs.Depth.{level, balanced}
-use Rattle.processor.specs.Notes.{Note, codes, laid, regNotes, immNotes, localNotes, prologueNotes, prologueCells, epilogueCells}
+use Rattle.processor.specs.Notes.{Note, laid, annotated, prologueCells, epilogueCells}
 
 abbrev pub stop : Cell
 stop = cell [] 0 false ret
@@ -38,6 +40,10 @@ fine b =
 
 abbrev pub fineNotes : List Note → Bool
 fineNotes l = fine (laid false 0 l)
+
+-- code, with the notes that it asks for
+abbrev pub fineCode : Code → Bool
+fineCode c = fineNotes (annotated c)
 
 -- Every register of the program: a test that passes at all eleven passes at each. (Any other number is read as RAX.)
 abbrev pub every : (ℕ → Bool) → List ℕ → Bool
@@ -60,7 +66,7 @@ unfolding regOf
 register P t n = every-at P registers t n
 
 -- 11 × 11 registers, three operations, two widths
-reg-table : (o : MulOp) (w : Width) (slot : ℕ) → T (everyRegister (λ s. everyRegister (λ d. fineNotes (regNotes o slot w s d))))
+reg-table : (o : MulOp) (w : Width) (slot : ℕ) → T (everyRegister (λ s. everyRegister (λ d. fineCode (mulDivModReg o slot w s d))))
 unfolding rex
 reg-table Mul W32 slot = tt
 reg-table Mul W64 slot = tt
@@ -69,13 +75,16 @@ reg-table Div W64 slot = tt
 reg-table Mod W32 slot = tt
 reg-table Mod W64 slot = tt
 
-pub reg-fine : (o : MulOp) (w : Width) (slot s d : ℕ) → T (fineNotes (regNotes o slot w (regOf s) (regOf d)))
+pub reg-fine : (o : MulOp) (w : Width) (slot s d : ℕ) → T (fineCode (mulDivModReg o slot w (regOf s) (regOf d)))
 reg-fine o w slot s d =
-    register (λ d. fineNotes (regNotes o slot w (regOf s) d))
-    (register (λ s. everyRegister (λ d. fineNotes (regNotes o slot w s d))) (reg-table o w slot) s) d
+    register (λ d. fineCode (mulDivModReg o slot w (regOf s) d))
+    (register (λ s. everyRegister (λ d. fineCode (mulDivModReg o slot w s d))) (reg-table o w slot) s) d
 
 -- an immediate that is not 0 stays a variable
-imm-table : (o : MulOp) (w : Width) (x : ℕ) → eqb x 0 ≡ false → T (everyRegister (λ d. fineNotes (immNotes o w d x)))
+abbrev pub byImm : MulOp → Width → (dst imm : ℕ) → Code
+byImm o w d x = computed o w (op (aluImm MOV W64 RCX x) ∷ []) d
+
+imm-table : (o : MulOp) (w : Width) (x : ℕ) → eqb x 0 ≡ false → T (everyRegister (λ d. fineCode (byImm o w d x)))
 imm-table Mul W32 x e = tt
 imm-table Mul W64 x e = tt
 imm-table Div W32 x e = rw e tt
@@ -83,15 +92,15 @@ imm-table Div W64 x e = rw e tt
 imm-table Mod W32 x e = rw e tt
 imm-table Mod W64 x e = rw e tt
 
-pub imm-fine : (o : MulOp) (w : Width) (d x : ℕ) → eqb x 0 ≡ false → T (fineNotes (immNotes o w (regOf d) x))
-imm-fine o w d x e = register (λ d. fineNotes (immNotes o w d x)) (imm-table o w x e) d
+pub imm-fine : (o : MulOp) (w : Width) (d x : ℕ) → eqb x 0 ≡ false → T (fineCode (byImm o w (regOf d) x))
+imm-fine o w d x e = register (λ d. fineCode (byImm o w d x)) (imm-table o w x e) d
 
-pub local-fine : (t : ℕ) → T (fineNotes (localNotes t))
+pub local-fine : (t : ℕ) → T (fineCode (localCall t))
 local-fine t = tt
 
 -- the three prologues
 pub prologue-fine : (f : Flags) → T (fine (prologueCells f))
-unfolding prologueCells
+unfolding prologueCells saves packetStart packetEnd argument enter prologue
 prologue-fine f = by (f .use_mbuff) (f .update_data_ptr)
   where
     by : (a b : Bool) → T (fine (prologueCells (record { use_mbuff = a; update_data_ptr = b })))
@@ -120,14 +129,15 @@ isOver (jump (jcc c) d) r = false
 isOver (callReg x) r = false
 isOver ret r = false
 
-abbrev calling : List (Instr Dest) → Bool
+abbrev pub calling : List (Instr Dest) → Bool
 calling [] = false
 calling (i ∷ r) = isOver i r || calling r
 
-prologue-calling : (f : Flags) → T (calling (codes (prologueNotes f)))
+prologue-calling : (f : Flags) → T (calling (prologue f))
+unfolding saves packetStart packetEnd argument enter prologue
 prologue-calling f = by (f .use_mbuff) (f .update_data_ptr)
   where
-    by : (a b : Bool) → T (calling (codes (prologueNotes (record { use_mbuff = a; update_data_ptr = b }))))
+    by : (a b : Bool) → T (calling (prologue (record { use_mbuff = a; update_data_ptr = b })))
     by true true = tt
     by true false = tt
     by false b = tt
@@ -164,10 +174,10 @@ calls-in (i ∷ r) t = or-elim (isOver i r) (calling r) t (calls-over i r) (λ u
     later : Calls r → Calls (i ∷ r)
     later v = record { pre = i ∷ v .pre; aim = v .aim; split = ap (λ (l : List (Instr Dest)). i ∷ l) (v .split) }
 
-pub prologue-calls : (f : Flags) → Calls (codes (prologueNotes f))
-prologue-calls f = calls-in (codes (prologueNotes f)) (prologue-calling f)
+pub prologue-calls : (f : Flags) → Calls (prologue f)
+prologue-calls f = calls-in (prologue f) (prologue-calling f)
 
 -- the epilogue, behind which nothing follows
 pub epilogue-fine : T (flowing epilogueCells) × T (balanced anchor epilogueCells) × T (fits cellLen (asks []) epilogueCells) × T (fits cellLen (level 0) epilogueCells)
-unfolding epilogueCells
+unfolding epilogueCells epilogue
 epilogue-fine = (tt, tt, tt, tt)

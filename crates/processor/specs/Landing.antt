@@ -37,8 +37,8 @@ use Rattle.processor.specs.Reads.{lower, drop-code}
 use Rattle.processor.specs.Demand3.{blocksOf, ExitAt, Meant, slot, exit, first, Lands, Unlisted, listed, entry, skip, Enters, Landing}
 use Rattle.processor.specs.Cells.{follow-to, follow-near}
 use Rattle.processor.specs.Pieces.{nearsIn, near-found, allListed, skipsIn, Skip, skip-found}
-use Rattle.processor.specs.Checked.{Calls}
-use Rattle.processor.specs.NotedCode.{Skipping, divides, none-skips, slot-skipping, prologue-enters}
+use Rattle.processor.specs.Checked.{Calls, prologue-calls}
+use Rattle.processor.specs.NotedCode.{Skipping, divides, none-skips, slot-skipping}
 use Rattle.processor.specs.Program.{Origins, OriginIn, OriginsIn, origins-of, Goods, goods-at, never}
 use Rattle.processor.specs.Layout.{block-piece, Found, start, found}
 use Rattle.processor.specs.Layout as layout
@@ -457,7 +457,7 @@ module _ (x : Inputs) (bs : List Block) (is-blocks : blocksOf x ≡ bs) (from : 
 
   -- the prologue's call
   enters : Enters x all
-  enters = by (prologue-enters f)
+  enters = by (prologue-calls f)
     where
       by : Calls (prologue f) → Enters x all
       by c =

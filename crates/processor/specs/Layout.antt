@@ -14,7 +14,7 @@ use Rattle.base.specs.Tests.{and-l, and-r}
 use Rattle.x86.specs.Instr.{jump, jmp}
 use Rattle.x86.specs.Code.{to, size, size-append}
 use Rattle.jit.specs.Limits.{anchor}
-use Rattle.jit.specs.Frame.{prologue, epilogue}
+use Rattle.jit.specs.Frame.{saves, packetStart, packetEnd, argument, enter, prologue, epilogue}
 use Rattle.jit.specs.Translation.{Block, slotsWide, flat, entries, starts, whole, locations, exitOf, placeOf}
 use Rattle.jit.specs.Bounds.{slotsIn}
 use Rattle.jit.specs.declared.Flags.{Flags}
@@ -23,7 +23,7 @@ use Rattle.processor.specs.Reads.{WfCode, wf-append, len-some}
 use Rattle.processor.specs.Cells.{Cell, cell, cellLen, instrs, instrs-append, size-instrs, extent, Place}
 use Rattle.processor.specs.Flow.{asks}
 use Rattle.processor.specs.Depth.{level, exactly, framed}
-use Rattle.processor.specs.Notes.{prologueNotes, frontCells, prologueCells, epilogueCells}
+use Rattle.processor.specs.Notes.{annotated, frontCells, prologueCells, epilogueCells}
 use Rattle.processor.specs.Checked.{stop, prologue-fine, epilogue-fine}
 use Rattle.processor.specs.Pieces.{Piece, Passed, before, passed, shut, shut-append, shut-laid}
 use Rattle.processor.specs.NotedCode.{slot-piece, prologue-same, prologue-wf, epilogue-same, epilogue-wf}
@@ -248,18 +248,18 @@ module _ (f : Flags) (bs : List Block) (o : Origins 0 bs) where
       rw (h, l)
 
   pub gates : (p : ℕ) (Q : Cell → Bool) (v : Place pageCells p Q) → T (v .cell .gate) → p ≡ exitOf f bs
-  unfolding prologueCells epilogueCells
+  unfolding prologueCells epilogueCells epilogue
   gates p Q v t =
       let A = prologueCells f ++ flatCells 0 bs o in
       let e : A ++ epilogueCells ≡ pageCells = append-assoc (prologueCells f) (flatCells 0 bs o) epilogueCells in
       let g : extent A ≡ exitOf f bs =
       span-append cellLen (prologueCells f) (flatCells 0 bs o) ∙ rw (front-extent, ← size-instrs (flatCells 0 bs o), flat-same 0 bs o) in
       sym (v .at)
-      ∙ gate-extent A (v .pre) _ (v .cell) _ (v .post) (shut-append (prologueCells f) (flatCells 0 bs o) (shut-laid 0 (prologueNotes f)) (flat-shut 0 bs o)) tt (e ∙ v .split) t
+      ∙ gate-extent A (v .pre) _ (v .cell) _ (v .post) (shut-append (prologueCells f) (flatCells 0 bs o) (shut-laid 0 (annotated (prologue f))) (flat-shut 0 bs o)) tt (e ∙ v .split) t
       ∙ g
 
   pub exit-framed : Place pageCells (placeOf locs (exitOf f bs) anchor) (exactly framed)
-  unfolding epilogueCells
+  unfolding epilogueCells epilogue
   exit-framed =
       let A = prologueCells f ++ flatCells 0 bs o in
       let g : extent A ≡ exitOf f bs =
@@ -271,7 +271,7 @@ module _ (f : Flags) (bs : List Block) (o : Origins 0 bs) where
   leap = cell [] framed false (jump jmp (to anchor))
 
   front-split : prologueCells f ≡ frontCells f ++ (leap ∷ [])
-  unfolding prologueCells frontCells
+  unfolding prologueCells frontCells saves packetStart packetEnd argument enter prologue
   front-split = by (f .use_mbuff) (f .update_data_ptr)
     where
       by : (a b : Bool) → let f : Flags = record { use_mbuff = a; update_data_ptr = b } in prologueCells f ≡ frontCells f ++ (leap ∷ [])

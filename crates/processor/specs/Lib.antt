@@ -1,7 +1,7 @@
 -- What the code does when it is read and run. Open Demand3 first: it has the statements. Machine is the processor that they are about.
 -- Then, from the ground up: places in lists of sized things (Placed), reading (Reads, Lowered), what is known of registers (Facts), code with
--- notes (Cells), the two checks with their soundness (Flow, Depth), the notes of every slot (Notes) and that they pass (Checked), pieces of
--- checked code (Pieces), the code of crate jit as such pieces (NotedCode), what an accepted translation is made of (Program), the whole page
+-- notes (Cells), the two checks with their soundness (Flow, Depth), the notes that code asks for (Notes), that those of every slot pass
+-- (Checked) and wrong code does not (Rejected), pieces of checked code (Pieces), the code of crate jit as such pieces (NotedCode), what an accepted translation is made of (Program), the whole page
 -- (Layout), landing (Landing), and the proof (Proved). Useless says what demand 3 rules out by itself. The model is held by Pinned (it leaves
 -- open what it must), Words (registers stay numbers of 64 bits), WorkedRun (one run to its end) and ModelTests (a table, see model-test/).
 pub mod Machine
@@ -16,6 +16,7 @@ pub mod Depth
 pub mod Notes
 pub mod Checked
 pub mod Pieces
+pub mod Rejected
 pub mod NotedCode
 pub mod Program
 pub mod Layout

@@ -1,8 +1,8 @@
 -- The code of crate jit is code with notes that pass: every kind of slot, the three prologues and the epilogue.
 -- Assumes nothing.
-use mathlib.Core.Path.{_≡_, refl, ap, sym, _∙_}
+use mathlib.Core.Path.{_≡_, refl, _∙_}
 use mathlib.Core.Bool.{Bool, true, false, not, _&&_}
-use mathlib.Core.List.{List, [], _∷_, _++_}
+use mathlib.Core.List.{[], _∷_, _++_}
 use Prim.Native.Nat.{ℕ, _+_, _%_, _^_, _<_}
 use native.Mathlib.Omega.{arith}
 use lib.Dec.{T, T-not, ltb, eqb, ltb→lt}
@@ -31,10 +31,10 @@ use Rattle.jit.specs.Frame.{saves, packetStart, packetEnd, argument, enter, pro
 use Rattle.jit.specs.declared.Flags.{Flags}
 use Rattle.processor.specs.Reads.{WfDest, WfCode, wf-append}
 use Rattle.processor.specs.Cells.{instrs}
-use Rattle.processor.specs.Facts.{Fact}
-use Rattle.processor.specs.Notes.{plain, codes, tested, computedNotes, regNotes, immNotes, localNotes, prologueNotes, prologueCells, epilogueCells}
-use Rattle.processor.specs.Checked.{fineNotes, everyRegister, register, Calls, prologue-calls, reg-fine, imm-fine, local-fine}
-use Rattle.processor.specs.Pieces.{Piece, append, none, noted, unnoted, allListed, skipsIn, instrs-laid}
+use Rattle.processor.specs.Depth.{framed}
+use Rattle.processor.specs.Notes.{plain, annotated, codes-annotated, prologueCells, epilogueCells}
+use Rattle.processor.specs.Checked.{fineNotes, byImm, everyRegister, register, reg-fine, imm-fine, local-fine}
+use Rattle.processor.specs.Pieces.{Piece, append, none, found, unnoted, allListed, skipsIn, instrs-laid}
 
 -- What a slot's numbers are: fields of a slot, and what it takes from elsewhere.
 pub record Numbers (slot : ℕ) (i : Insn) (value : ℕ) : Type 0 where
@@ -143,33 +143,9 @@ helper-piece a h =
         by false = tt
 
 local-piece : (t : ℕ) → Piece (localCall t)
-local-piece t = noted (localCall t) (localNotes t) refl (local-fine t) (omega arith) tt
+local-piece t = found (localCall t) (local-fine t) (omega arith) tt
 
--- MUL, DIV, MOD: the same instructions
-computed-same : (o : MulOp) (w : Width) (F : List Fact) (operand : Instr Dest) (d : ℕ)
-    → codes (computedNotes o w F operand d) ≡ computed o w (operand ∷ []) d
-computed-same o w F operand d = by o (eqb d RAX) (eqb d RDX) refl refl
-  where
-    by : (o : MulOp) (a b : Bool) → eqb d RAX ≡ a → eqb d RDX ≡ b → codes (computedNotes o w F operand d) ≡ computed o w (operand ∷ []) d
-    by Mul true true e f = rw (e, f)
-    by Mul true false e f = rw (e, f)
-    by Mul false true e f = rw (e, f)
-    by Mul false false e f = rw (e, f)
-    by Div true true e f = rw (e, f)
-    by Div true false e f = rw (e, f)
-    by Div false true e f = rw (e, f)
-    by Div false false e f = rw (e, f)
-    by Mod true true e f = rw (e, f)
-    by Mod true false e f = rw (e, f)
-    by Mod false true e f = rw (e, f)
-    by Mod false false e f = rw (e, f)
-
-reg-same : (o : MulOp) (slot : ℕ) (w : Width) (s d : ℕ) → codes (regNotes o slot w s d) ≡ mulDivModReg o slot w s d
-reg-same Mul slot w s d = computed-same Mul w [] (op (alu MOV W64 s RCX)) d
-reg-same Div slot w s d = ap (λ (c : Code). guard Div slot w s d ++ c) (computed-same Div w (tested Div w s) (op (alu MOV W64 s RCX)) d)
-reg-same Mod slot w s d = ap (λ (c : Code). guard Mod slot w s d ++ c) (computed-same Mod w (tested Mod w s) (op (alu MOV W64 s RCX)) d)
-
--- their registers and constants
+-- MUL, DIV, MOD: their registers and constants
 wf-unless : (r s : ℕ) (c : Code) → WfCode c → WfCode (unlessIs r s c)
 wf-unless r s c w = by (eqb r s)
   where
@@ -207,19 +183,19 @@ guard-wf Div slot w s d h hs hd = omega (arith, plain-most (alu XOR W32 d d))
 guard-wf Mod slot w s d h hs hd = omega arith
 
 -- their skips
-reg-skips : (o : MulOp) (slot : ℕ) (w : Width) (s d : ℕ) → T (skipsIn (codes (regNotes o slot w s (regOf d))))
+reg-skips : (o : MulOp) (slot : ℕ) (w : Width) (s d : ℕ) → T (skipsIn (mulDivModReg o slot w s (regOf d)))
 unfolding rex
-reg-skips o slot w s d = register (λ r. skipsIn (codes (regNotes o slot w s r))) (by o) d
+reg-skips o slot w s d = register (λ r. skipsIn (mulDivModReg o slot w s r)) (by o) d
   where
-    by : (o : MulOp) → T (everyRegister (λ r. skipsIn (codes (regNotes o slot w s r))))
+    by : (o : MulOp) → T (everyRegister (λ r. skipsIn (mulDivModReg o slot w s r)))
     by Mul = tt
     by Div = tt
     by Mod = tt
 
-imm-skips : (o : MulOp) (w : Width) (d x : ℕ) → T (skipsIn (codes (immNotes o w (regOf d) x)))
-imm-skips o w d x = register (λ r. skipsIn (codes (immNotes o w r x))) (by o) d
+imm-skips : (o : MulOp) (w : Width) (d x : ℕ) → T (skipsIn (byImm o w (regOf d) x))
+imm-skips o w d x = register (λ r. skipsIn (byImm o w r x)) (by o) d
   where
-    by : (o : MulOp) → T (everyRegister (λ r. skipsIn (codes (immNotes o w r x))))
+    by : (o : MulOp) → T (everyRegister (λ r. skipsIn (byImm o w r x)))
     by Mul = tt
     by Div = tt
     by Mod = tt
@@ -228,11 +204,10 @@ by-reg-piece : (o : MulOp) (slot : ℕ) (w : Width) (s d : ℕ) → slot < 2 ^ 3
 by-reg-piece o slot w s d h =
     let a = regOf s in
     let b = regOf d in
-    let same = reg-same o slot w a b in
-    noted (mulDivModReg o slot w a b) (regNotes o slot w a b) same (reg-fine o w slot s d)
+    found (mulDivModReg o slot w a b) (reg-fine o w slot s d)
     (wf-append (guard o slot w a b) (computed o w (op (alu MOV W64 a RCX) ∷ []) b) (guard-wf o slot w a b h (reg-lt s) (reg-lt d))
     (computed-wf o w (op (alu MOV W64 a RCX)) b (reg-lt s, omega arith) (reg-lt d)))
-    (rw same at (reg-skips o slot w a d))
+    (reg-skips o slot w a d)
 
 zero-piece : (o : MulOp) (d : ℕ) → Piece (byZero o (regOf d))
 zero-piece Mul d = alu-piece XOR W32 (regOf d) d (reg-lt d)
@@ -244,9 +219,7 @@ by-imm-piece o w d x h = by (eqb x 0) refl
   where
     by : (t : Bool) → eqb x 0 ≡ t → Piece (pick t (byZero o (regOf d)) (computed o w (op (aluImm MOV W64 RCX x) ∷ []) (regOf d)))
     by true e = zero-piece o d
-    by false e =
-        let same = computed-same o w [] (op (aluImm MOV W64 RCX x)) (regOf d) in
-        noted _ (immNotes o w (regOf d) x) same (imm-fine o w d x e) (computed-wf o w (op (aluImm MOV W64 RCX x)) (regOf d) (omega arith, h) (reg-lt d)) (rw same at (imm-skips o w d x))
+    by false e = found _ (imm-fine o w d x e) (computed-wf o w (op (aluImm MOV W64 RCX x)) (regOf d) (omega arith, h) (reg-lt d)) (imm-skips o w d x)
 
 -- a condition's test, and its jump
 jump-piece : (j : x86.Jump) (t : ℕ) → Piece (jump j (to t) ∷ [])
@@ -354,17 +327,8 @@ slot-skipping Exit slot i value = none-skips tt
 
 -- The frame: the same instructions, and their constants.
 pub prologue-same : (f : Flags) → instrs (prologueCells f) ≡ prologue f
-unfolding prologueCells saves packetStart packetEnd argument enter prologue
-prologue-same f = by (f .use_mbuff) (f .update_data_ptr)
-  where
-    by : (a b : Bool) → instrs (prologueCells (record { use_mbuff = a; update_data_ptr = b })) ≡ prologue (record { use_mbuff = a; update_data_ptr = b })
-    by true true = refl
-    by true false = refl
-    by false b = refl
-
-pub prologue-enters : (f : Flags) → Calls (prologue f)
 unfolding prologueCells
-prologue-enters f = rw (sym (instrs-laid false 0 (prologueNotes f)) ∙ prologue-same f) at (prologue-calls f)
+prologue-same f = instrs-laid false 0 (annotated (prologue f)) ∙ codes-annotated (prologue f)
 
 pub prologue-wf : (f : Flags) → WfCode (prologue f)
 unfolding saves packetStart packetEnd argument enter prologue
@@ -376,8 +340,8 @@ prologue-wf f = by (f .use_mbuff) (f .update_data_ptr)
     by false b = omega arith
 
 pub epilogue-same : instrs epilogueCells ≡ epilogue
-unfolding epilogueCells epilogue
-epilogue-same = refl
+unfolding epilogueCells
+epilogue-same = instrs-laid true framed (annotated epilogue) ∙ codes-annotated epilogue
 
 pub epilogue-wf : WfCode epilogue
 unfolding epilogue

@@ -18,8 +18,8 @@ use Rattle.processor.specs.Facts.{Fact, leaves, branch, covers-none}
 use Rattle.processor.specs.Cells.{Cell, cellLen, instrs, instrs-append}
 use Rattle.processor.specs.Flow.{asks, flows, flowsOf, safeCell, flowing}
 use Rattle.processor.specs.Depth.{level, depths, depthsOf, evenCell, balanced, sinks}
-use Rattle.processor.specs.Notes.{Note, codes, plain, laid}
-use Rattle.processor.specs.Checked.{stop, fine, fineNotes}
+use Rattle.processor.specs.Notes.{Note, codes, plain, laid, annotated, codes-annotated}
+use Rattle.processor.specs.Checked.{stop, fine, fineNotes, fineCode}
 
 -- A jump that is not listed is a division's skip: JNE over one instruction and a listed JMP, to the instruction behind these two.
 abbrev behindJmp : (k : ℕ) → Code → Bool
@@ -279,10 +279,13 @@ append a b p q =
 pub none : Piece []
 none = record { cells = []; same = refl; passes = record { flow = tt; even = tt; free = tt; flat = tt }; shuts = tt; wf = tt; skips = tt }
 
--- from notes, and from code that needs none
+-- from notes, from code that needs none, and from code by the notes that it asks for
 pub noted : (c : Code) (l : List Note) → codes l ≡ c → T (fineNotes l) → WfCode c → T (skipsIn c) → Piece c
 noted c l e t w s =
     record { cells = laid false 0 l; same = instrs-laid false 0 l ∙ e; passes = passed (laid false 0 l) t; shuts = shut-laid 0 l; wf = w; skips = s }
 
 pub unnoted : (c : Code) → T (fineNotes (plain c)) → WfCode c → T (skipsIn c) → Piece c
 unnoted c t w s = noted c (plain c) (codes-plain c) t w s
+
+pub found : (c : Code) → T (fineCode c) → WfCode c → T (skipsIn c) → Piece c
+found c t w s = noted c (annotated c) (codes-annotated c) t w s

@@ -109,7 +109,7 @@ module _ (f : Flags) (bs : List Block) (o : Origins 0 bs) (short : size (whole f
   page = pageCells f bs o
 
   begins-even : (s : State) → Begins s → Even page (s .regs RSP) s
-  unfolding prologueCells
+  unfolding prologueCells saves packetStart packetEnd argument enter prologue
   begins-even s b = record { deep = 0; place = rw (b .0) (page-first f bs o (exactly 0) tt); below = rw (b .1) (omega arith); opens = rw (b .1) tt }
 
   -- the check of RSP, for this page
