@@ -13,7 +13,7 @@ use Rattle.jit.specs.Refusals.{numberOf, slotOf}
 use Rattle.jit.specs.Translation.{Inputs, slotsOf, translationOf}
 use Rattle.processor.specs.Machine.{State, Input, divided, run}
 use Rattle.processor.specs.Demand3.{Given, Begins, Demand3}
-use Rattle.processor.specs.Useless.{never-divided}
+use Rattle.processor.specs.Useless.{division-raises}
 use Rattle.translator.specs.Translated.{Translated, one-answer}
 use Rattle.translator.specs.declared.translate.Answer.{Answer}
 use Rattle.translator.specs.declared.translate.Answer.the-variants.{Accepted, Refused}
@@ -59,7 +59,7 @@ one-struct a b =
 -- What `safe` is there for: no page that is answered with number 0 raises #DE, whatever it is run on.
 pub never-faults : {x : Inputs} {c₀ c₁ l₀ l₁ f₀ f₁ t₀ t₁ : List ℕ} {r : Translation} → Exported x c₀ c₁ l₀ l₁ f₀ f₁ t₀ t₁ r → r .number ≡ 0
     → (us : List Input) (s : State) → Begins s → run (take (r .length) c₁) us s ≡ divided → ⊥
-never-faults h z us s b = never-divided _ _ (h .safe z .staying) us s b
+never-faults h z = division-raises _ _ _ _ _ (h .safe z)
 
 -- No refusal has number 0, so what has it is accepted, and its page is what `accepted-page` says.
 numbered : (r : Refusal) → 1 ≤ numberOf r

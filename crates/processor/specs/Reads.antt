@@ -46,6 +46,20 @@ readUpTo (suc n) l = more l (λ t. readUpTo n t)
 abbrev pub readAll : List ℕ → Reads
 readAll code = readUpTo (length code) code
 
+-- the first of what is read is read at the first byte
+pub first-read : (code : List ℕ) (i : Instr ℕ) (is : List (Instr ℕ)) → readAll code ≡ all (i ∷ is) → (r : List ℕ) × (decode code ≡ got i r)
+unfolding readUpTo
+first-read [] i is e = let z : _≡_ {A = ℕ} 0 1 = cc in absurd (omega arith)
+first-read (b ∷ l) i is e = by (decode (b ∷ l)) refl e
+  where
+    one : (j : Instr ℕ) (r : List ℕ) (t : Reads) → decode (b ∷ l) ≡ got j r → cons j t ≡ all (i ∷ is) → (r : List ℕ) × (decode (b ∷ l) ≡ got i r)
+    one j r torn d q = let z : _≡_ {A = ℕ} 0 1 = cc in absurd (omega arith)
+    one j r (all is′) d q = let h : j ≡ i = cc in (r, d ∙ rw h)
+
+    by : (d : Read) → decode (b ∷ l) ≡ d → onward d (λ t. readUpTo (length l) t) ≡ all (i ∷ is) → (r : List ℕ) × (decode (b ∷ l) ≡ got i r)
+    by bad d q = let z : _≡_ {A = ℕ} 0 1 = cc in absurd (omega arith)
+    by (got j r) d q = one j r (readUpTo (length l) r) d q
+
 -- No instruction is empty.
 load-some : (z : Size) (t : List ℕ) → 1 ≤ length (loadOpcode z ++ t)
 load-some S8 t = omega arith

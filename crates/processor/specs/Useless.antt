@@ -1,75 +1,44 @@
--- What demand 3 rules out by itself, whatever demand 2 says, of any code, instructions and tables, not only of those that `translationOf`
--- gives: a translator that answers success and writes nothing, one that leaves its fields unfilled, and one that measures them from their
--- own start; and code that divides by zero or runs to where nothing can be read.
+-- What demand 3 rules out by itself, whatever demand 2 says: each of its four statements shuts out a translator that demand 2 would shut out
+-- too. UselessReading, UselessLanding, UselessJumps and UselessRuns do the same for every part of every statement, of any code and
+-- tables, so that no part can be made to say nothing: its lemma would no longer hold.
 -- Assumes nothing.
-use mathlib.Core.Path.{_≡_, ap, sym, _∙_}
+use mathlib.Core.Path.{_≡_}
 use mathlib.Core.Logic.{_≢_}
-use mathlib.Core.List.{List, [], _∷_, _++_}
-use Prim.Native.Nat.{ℕ, zero, suc, _+_, _-_, _%_, _^_, _<_}
-use native.Mathlib.Omega.{arith}
-use native.Mathlib.Nat.{mod-eq-of-lt, add-zero}
-use lib.ListN.{length, getD, take, drop, replicate}
-use Rattle.base.specs.Bytes.{le32, join, join-le32}
-use Rattle.base.specs.Tests.{eqb-true, eqb-false}
-use Rattle.x86.specs.Instr.{Instr, ret}
-use Rattle.x86.specs.Decode.{decode, withRex, opcode}
-use Rattle.jit.specs.Limits.{anchor}
-use Rattle.jit.specs.Translation.{Inputs, placeOf}
-use Rattle.processor.specs.Machine.{State, Input, divided, astray, follow, run}
-use Rattle.processor.specs.Reads.{readUpTo, torn, all}
-use Rattle.processor.specs.Cells.{measured, follow-to}
-use Rattle.processor.specs.Demand3.{Reading, Meant, slot, exit, first, Lands, Landing, Begins, Staying}
+use mathlib.Core.List.{List}
+use Prim.Native.Nat.{ℕ, _+_, _-_, _%_, _^_, _<_}
+use lib.ListN.{length, getD, take, drop}
+use Rattle.base.specs.Bytes.{le32}
+use Rattle.x86.specs.Registers.{RSP, RBP}
+use Rattle.x86.specs.Instr.{op, push}
+use Rattle.x86.specs.Decode.{decode, got}
+use Rattle.jit.specs.Translation.{Inputs, placeOf, yes, translationOf}
+use Rattle.processor.specs.Machine.{State, Input, finished, divided, run, EntersFrom}
+use Rattle.processor.specs.Demand3.{Given, instructionsOf, Begins, Demand3}
+use Rattle.processor.specs.Proved.{demand3}
+use Rattle.processor.specs.UselessReading.{nothing-written}
+use Rattle.processor.specs.UselessLanding as landing
+use Rattle.processor.specs.UselessRuns.{never-divided, uneven-end}
 
--- A page of zeros, of any length, on which nothing was written, reads as no list of instructions: 00 starts none of them, and an empty
--- list does not end in a return.
-ends : (others : List (Instr ℕ)) → [] ≡ others ++ (ret ∷ []) → ⊥
-ends [] e = let z : _≡_ {A = ℕ} 0 1 = cc in omega arith
-ends (i ∷ others) e = let z : _≡_ {A = ℕ} 0 1 = cc in omega arith
+module _ (x : Inputs) (code locs fields targets : List ℕ) (d : Demand3 x code locs fields targets) where
+  -- one that answers success and writes nothing, on a page whose first bytes are not read as `push RBP`
+  pub page-left : ((r : List ℕ) → decode code ≢ got (op (push RBP)) r) → ⊥
+  page-left n = nothing-written code n x (d .reading)
 
-pub nothing-written : (n : ℕ) (is : List (Instr ℕ)) → Reading (replicate n 0) is → ⊥
-unfolding readUpTo decode withRex opcode
-nothing-written zero is r = let e : [] ≡ is = (let q = r .read in cc) in ends (r .others) (e ∙ r .last)
-nothing-written (suc n) is r = let q : torn ≡ all is = r .read in let z : _≡_ {A = ℕ} 0 1 = cc in omega arith
+  -- one that leaves a field unfilled
+  pub field-left : (k : ℕ) → k < length fields → getD fields k 0 + 4 < 2 ^ 64
+      → placeOf locs (length code - 16) (getD targets k 0) ≢ getD fields k 0 + 4 → take 4 (drop (getD fields k 0) code) ≡ le32 0 → ⊥
+  field-left k h = landing.unfilled x code (instructionsOf x) locs fields targets (d .landing) k h
 
--- An entry of the jump tables whose field is blank lands right behind it. So its target has to lie there.
-lies : (x : Inputs) (code : List ℕ) (is : List (Instr ℕ)) (locs : List ℕ) (t p : ℕ) → Meant x code is locs t p
-    → placeOf locs (length code - 16) t ≡ p
-lies x code is locs t p (slot b l n s e) = rw (eqb-false t anchor n) e
-lies x code is locs t p (exit e v) = rw (eqb-true t anchor e) (omega (arith, v .ends))
-lies x code is locs t p (first l n e z) = rw (eqb-false t anchor n) (e ∙ sym z)
+  -- one whose code divides by zero
+  pub division-raises : (us : List Input) (s : State) → Begins s → run code us s ≡ divided → ⊥
+  division-raises = never-divided code (instructionsOf x) (d .staying)
 
-blank-lands : (x : Inputs) (code : List ℕ) (is : List (Instr ℕ)) (locs : List ℕ) (f t : ℕ) → f + 4 < 2 ^ 64 → take 4 (drop f code) ≡ le32 0
-    → Lands x code is locs f t
-    → placeOf locs (length code - 16) t ≡ f + 4
-unfolding follow
-blank-lands x code is locs f t h e v =
-    let z : v .field ≡ 0 = sym (join-le32 (v .field) (v .word)) ∙ ap join (sym (v .bytes) ∙ e) in
-    lies x code is locs t (follow (f + 4) (v .field)) (v .meant) ∙ (rw z (ap (λ (n : ℕ). n % 2 ^ 64) (add-zero (f + 4)) ∙ mod-eq-of-lt h))
+  -- one whose code comes back with RSP elsewhere
+  pub stack-lost : (us : List Input) (s t : State) → Begins s → EntersFrom code (length code - 16) (getD fields 0 0 - 1) us s
+      → run code us s ≡ finished t → t .regs RSP ≢ (s .regs RSP + 8) % 2 ^ 64 → ⊥
+  stack-lost = uneven-end code fields (d .stack)
 
-pub unfilled : (x : Inputs) (code : List ℕ) (is : List (Instr ℕ)) (locs fields targets : List ℕ) (k : ℕ) → k < length fields
-    → getD fields k 0 + 4 < 2 ^ 64
-    → placeOf locs (length code - 16) (getD targets k 0) ≢ getD fields k 0 + 4 → take 4 (drop (getD fields k 0) code) ≡ le32 0
-    → Landing x code is locs fields targets → ⊥
-unfilled x code is locs fields targets k h g n e l = n (blank-lands x code is locs (getD fields k 0) (getD targets k 0) g e (l .listed k h))
-
--- An entry whose field is measured from its own start, and not from its end, lands four bytes behind its target.
-pub from-start : (x : Inputs) (code : List ℕ) (is : List (Instr ℕ)) (locs fields targets : List ℕ) (k : ℕ) → k < length fields
-    → let f = getD fields k 0 in let q = placeOf locs (length code - 16) (getD targets k 0) in
-    f + 4 < 2 ^ 31 → q + 4 < 2 ^ 31 → take 4 (drop f code) ≡ le32 (measured f q) → Landing x code is locs fields targets → ⊥
-from-start x code is locs fields targets k h g n e l =
-    let f = getD fields k 0 in
-    let q = placeOf locs (length code - 16) (getD targets k 0) in
-    let v = l .listed k h in
-    let z : v .field ≡ measured (f + 4) (q + 4) =
-    sym (join-le32 (v .field) (v .word)) ∙ ap join (sym (v .bytes) ∙ e) ∙ join-le32 (measured f q) (omega arith) ∙ omega arith in
-    let p : q ≡ follow (f + 4) (v .field) = lies x code is locs (getD targets k 0) (follow (f + 4) (v .field)) (v .meant) in
-    let w : follow (f + 4) (v .field) ≡ q + 4 = rw z (follow-to (f + 4) (q + 4) g n) in
-    omega (arith, p ∙ w)
-
--- No run of code that stays raises #DE, or comes to a place where no instruction can be read.
-module _ (code : List ℕ) (is : List (Instr ℕ)) (stays : Staying code is) (us : List Input) (s : State) (b : Begins s) where
-  pub never-divided : run code us s ≡ divided → ⊥
-  never-divided e = rw e at (stays us s b)
-
-  pub never-astray : run code us s ≡ astray → ⊥
-  never-astray e = rw e at (stays us s b)
+-- and `translationOf` itself gives no such page
+pub page-never-left : (x : Inputs) → Given x → (code locs fields targets : List ℕ) → translationOf x ≡ yes code locs fields targets
+    → ((r : List ℕ) → decode code ≢ got (op (push RBP)) r) → ⊥
+page-never-left x given code locs fields targets e = page-left x code locs fields targets (demand3 x given code locs fields targets e)

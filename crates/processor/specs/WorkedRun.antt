@@ -11,20 +11,21 @@ use Rattle.x86.specs.Registers.{RSP}
 use Rattle.x86.specs.Decode.{decode, withRex, rexOf, opcode, opcode16, withModrm, regNumber, lowNumber, number}
 use Rattle.processor.specs.Machine.{put, Status, Input, State, Outcome, running, finished, faulted, unbalanced, divided, astray, rd, result, follow, step, run}
 
-abbrev page : List ℕ
-page =
+-- the page, by the two low bytes of what its epilogue adds to RSP, 00 02 in the right one
+abbrev pub pageAdding : (low high : ℕ) → List ℕ
+pageAdding low high =
     0x55 ∷ 0x53 ∷ 0x41 ∷ 0x55 ∷ 0x41 ∷ 0x56 ∷ 0x41 ∷ 0x57 ∷ 0x49 ∷ 0x89 ∷ 0xd2 ∷ 0x48 ∷ 0x89 ∷ 0xd7 ∷ 0x48 ∷ 0x89 ∷ 0xe5
     ∷ 0x48 ∷ 0x81 ∷ 0xec ∷ 0x00 ∷ 0x02 ∷ 0x00 ∷ 0x00 ∷ 0xe8 ∷ 0x05 ∷ 0x00 ∷ 0x00 ∷ 0x00 ∷ 0xe9 ∷ 0x01 ∷ 0x00 ∷ 0x00 ∷ 0x00
     ∷ 0xc3
-    ∷ 0x48 ∷ 0x81 ∷ 0xc4 ∷ 0x00 ∷ 0x02 ∷ 0x00 ∷ 0x00 ∷ 0x41 ∷ 0x5f ∷ 0x41 ∷ 0x5e ∷ 0x41 ∷ 0x5d ∷ 0x5b ∷ 0x5d ∷ 0xc3 ∷ []
+    ∷ 0x48 ∷ 0x81 ∷ 0xc4 ∷ low ∷ high ∷ 0x00 ∷ 0x00 ∷ 0x41 ∷ 0x5f ∷ 0x41 ∷ 0x5e ∷ 0x41 ∷ 0x5d ∷ 0x5b ∷ 0x5d ∷ 0xc3 ∷ []
 
 abbrev clear : Status
 clear = record { CF = false; ZF = false; SF = false; OF = false }
 
-abbrev start : State
+abbrev pub start : State
 start = record { pos = 0; regs = put (λ r. 0) RSP 4096; flags = clear; calls = [] }
 
-abbrev input : (allowed : Bool) → (back : ℕ) → Input
+abbrev pub input : (allowed : Bool) → (back : ℕ) → Input
 input a b = record { allowed = a; value = 7; back = b; regs = λ r. 9; flags = clear }
 
 -- what it came to: 0 running, 1 finished, 2 faulted, 3 unbalanced, 4 divided, 5 astray; the place, RSP, and how many calls are open
@@ -41,7 +42,7 @@ shown divided = 4 ∷ []
 shown astray = 5 ∷ []
 
 abbrev steps : ℕ → Bool → ℕ → List ℕ
-steps n a b = shown (run page (replicate n (input a b)) start)
+steps n a b = shown (run (pageAdding 0x00 0x02) (replicate n (input a b)) start)
 
 -- ten steps to the slot, the call being open; the prologue's jump; the last return, to where the run was called from
 pub worked-run :
