@@ -1,4 +1,4 @@
--- Tests of the model: 192 instructions, each stepped by antt from given registers, flags and inputs, and what comes of it. The table is
+-- Tests of the model: 215 instructions, each stepped by antt from given registers, flags and inputs, and what comes of it. The table is
 -- written by model-test/run, from a transliteration of Machine.antt that the same command holds to a real processor; do not edit it.
 -- Assumes nothing.
 use mathlib.Core.Path.{_≡_, refl}
@@ -451,6 +451,52 @@ table =
     (0 ∷ 77 ∷ 0 ∷ 0 ∷ 0 ∷ 0 ∷ 1017728711 ∷ 0 ∷ 0 ∷ 0 ∷ 0 ∷ 0 ∷ 0 ∷ 0 ∷ 0 ∷ 0 ∷ 0 ∷ 0 ∷ 1 ∷ 1 ∷ 1 ∷ 1 ∷ 5 ∷ 3129033318 ∷ []) ∷
     line (ret) (set 4 3553629252 ∷ []) (st I I O I) (st I I O I) true 0 78 (frame 77 8392989569448324143 ∷ [])
     (3 ∷ []) ∷
+    line (op (push 13)) (set 4 7999905160491457588 ∷ []) (st I I I I) (st O I I O) false 18446744073709551614 77 ([])
+    (2 ∷ []) ∷
+    line (op (pop 13)) (set 4 2117899695 ∷ []) (st O O O O) (st O I I O) false 18446744073709551614 77 ([])
+    (2 ∷ []) ∷
+    line (op (pop 4)) (set 4 4278627135029127511 ∷ []) (st I O O O) (st O I O I) false 3689362469081421720 77 ([])
+    (2 ∷ []) ∷
+    line (callReg 0) (set 4 3456239496010769861 ∷ []) (st O I I O) (st O I O O) false 2174320676 77 ([])
+    (2 ∷ []) ∷
+    line (ret) (set 4 3483561353 ∷ []) (st O I O I) (st O I O O) false 671696759 77 ([])
+    (2 ∷ []) ∷
+    line (op (load S8 10 0 0)) (set 10 18446744073709551614 ∷ []) (st O I O I) (st I O O I) false 4294967296 0 ([])
+    (2 ∷ []) ∷
+    line (op (store S8 8 9 0)) (set 8 17779489703935892346 ∷ set 9 2 ∷ []) (st O O I I) (st I I I I) false 0 0 ([])
+    (2 ∷ []) ∷
+    line (op (storeImm S8 5 0 1)) (set 5 4294967294 ∷ []) (st I O O O) (st I I I O) false 0 0 ([])
+    (2 ∷ []) ∷
+    line (op (load S16 10 0 0)) (set 10 15818228988585994741 ∷ []) (st I O O O) (st O O O I) false 2391702323130947903 0 ([])
+    (2 ∷ []) ∷
+    line (op (store S16 8 9 0)) (set 8 4722368286641607655 ∷ set 9 6812580179159549316 ∷ []) (st O I O I) (st O O I I) false 0 0 ([])
+    (2 ∷ []) ∷
+    line (op (storeImm S16 5 0 1)) (set 5 128 ∷ []) (st I O I I) (st I O I O) false 0 0 ([])
+    (2 ∷ []) ∷
+    line (op (load S32 10 0 0)) (set 10 9223372036854775807 ∷ []) (st I I O I) (st O I O I) false 65535 0 ([])
+    (2 ∷ []) ∷
+    line (op (store S32 8 9 0)) (set 8 13792203193520350512 ∷ set 9 432526799 ∷ []) (st O O I I) (st I I I O) false 0 0 ([])
+    (2 ∷ []) ∷
+    line (op (storeImm S32 5 0 1)) (set 5 0 ∷ []) (st I I I O) (st I O I I) false 0 0 ([])
+    (2 ∷ []) ∷
+    line (op (load S64 10 0 0)) (set 10 3256894069 ∷ []) (st I O I O) (st O I I I) false 5601100989384544224 0 ([])
+    (2 ∷ []) ∷
+    line (op (store S64 8 9 0)) (set 8 3061376343 ∷ set 9 14908280205641382544 ∷ []) (st I O O I) (st O O I I) false 0 0 ([])
+    (2 ∷ []) ∷
+    line (op (storeImm S64 5 0 1)) (set 5 8179803077758111877 ∷ []) (st I O I O) (st O O I I) false 0 0 ([])
+    (2 ∷ []) ∷
+    line (ret) (set 4 2364213303597732095 ∷ []) (st O I I I) (st I I O I) false 0 77 (frame 77 255 ∷ [])
+    (2 ∷ []) ∷
+    line (ret) (set 4 1 ∷ []) (st I O I O) (st I I O O) false 0 78 (frame 77 32767 ∷ [])
+    (2 ∷ []) ∷
+    line (op (alu ADD W64 6 13)) (set 6 2147483647 ∷ set 13 228119581 ∷ []) (st O I O O) (st O O I O) false 0 0 ([])
+    (0 ∷ 6 ∷ 0 ∷ 0 ∷ 0 ∷ 0 ∷ 0 ∷ 0 ∷ 2147483647 ∷ 0 ∷ 0 ∷ 0 ∷ 0 ∷ 0 ∷ 0 ∷ 2375603228 ∷ 0 ∷ 0 ∷ 0 ∷ 0 ∷ 0 ∷ 0 ∷ []) ∷
+    line (op (unary DIV W64 1)) (set 0 7 ∷ set 1 0 ∷ []) (st O I O I) (st O I I O) false 0 0 ([])
+    (4 ∷ []) ∷
+    line (jump jmp 5) ([]) (st O I I I) (st I O O I) false 0 0 ([])
+    (0 ∷ 13 ∷ 0 ∷ 0 ∷ 0 ∷ 0 ∷ 0 ∷ 0 ∷ 0 ∷ 0 ∷ 0 ∷ 0 ∷ 0 ∷ 0 ∷ 0 ∷ 0 ∷ 0 ∷ 0 ∷ 0 ∷ 1 ∷ 1 ∷ 1 ∷ []) ∷
+    line (jump (jcc JE) 5) ([]) (st O O I I) (st I I O I) false 0 0 ([])
+    (0 ∷ 9 ∷ 0 ∷ 0 ∷ 0 ∷ 0 ∷ 0 ∷ 0 ∷ 0 ∷ 0 ∷ 0 ∷ 0 ∷ 0 ∷ 0 ∷ 0 ∷ 0 ∷ 0 ∷ 0 ∷ 0 ∷ 0 ∷ 1 ∷ 1 ∷ []) ∷
     []
 
 pub tested : map comes table ≡ map (λ (l : Line). l .expected) table
