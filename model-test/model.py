@@ -37,9 +37,9 @@ def rd(w, g, r):
     return g[r] % 2**w
 
 
-def puts(sets, g):
+def puts(writes, g):
     g = list(g)
-    for key, to in sets:
+    for key, to in writes:
         g[key] = to
     return g
 
@@ -75,7 +75,7 @@ def result(o, w, a, b):
     }[o]()
 
 
-def aluSets(o, d, v):
+def aluWrites(o, d, v):
     return [] if o in ("CMP", "TEST") else [(d, v)]
 
 
@@ -197,7 +197,7 @@ def up(x):
     return (x + 8) % M64
 
 
-def unarySets(o, w, g, r):
+def unaryWrites(o, w, g, r):
     if o == "NEG":
         return [(r, opposite(w, rd(w, g, r)))]
     if o == "MUL":
@@ -215,7 +215,7 @@ def unaryStatus(o, w, g, r, u):
     return u.flags
 
 
-def setsOf(i, g, u):
+def writesOf(i, g, u):
     k, *a = i
     if k == "push":
         return [(RSP, down(g[RSP]))]
@@ -223,10 +223,10 @@ def setsOf(i, g, u):
         return [(RSP, up(g[RSP])), (a[0], u.value % 2**64)]
     if k == "alu":
         o, w, s, d = a
-        return aluSets(o, d, result(o, w, rd(w, g, d), rd(w, g, s)))
+        return aluWrites(o, d, result(o, w, rd(w, g, d), rd(w, g, s)))
     if k == "aluImm":
         o, w, d, x = a
-        return aluSets(o, d, result(o, w, rd(w, g, d), extended(w, x)))
+        return aluWrites(o, d, result(o, w, rd(w, g, d), extended(w, x)))
     if k == "shiftImm":
         o, w, d, x = a
         return [(d, shifted(o, w, rd(w, g, d), counted(w, x)))]
@@ -235,7 +235,7 @@ def setsOf(i, g, u):
         return [(d, shifted(o, w, rd(w, g, d), counted(w, inCl(g))))]
     if k == "unary":
         o, w, r = a
-        return unarySets(o, w, g, r)
+        return unaryWrites(o, w, g, r)
     if k == "movabs":
         d, x = a
         return [(d, x % 2**64)]
@@ -302,9 +302,9 @@ def holds(c, f):
 
 
 def effect(i, g, f, u):
-    """sets, flags, control"""
+    """writes, flags, control"""
     if i[0] in PLAIN:
-        return setsOf(i, g, u), statusOf(i, g, f, u), ("raises",) if faultsOf(i, g) else ("next",)
+        return writesOf(i, g, u), statusOf(i, g, f, u), ("raises",) if faultsOf(i, g) else ("next",)
     if i[0] == "jump":
         _, j, x = i
         if j == "jmp":
@@ -330,8 +330,8 @@ def does(i, end, s, u):
     """One instruction that ends at `end`: the outcome's name, and the state where it has one."""
     if touches(i) and not u.allowed:
         return "faulted", None
-    sets, flags, control = effect(i, s.regs, s.flags, u)
-    g = puts(sets, s.regs)
+    writes, flags, control = effect(i, s.regs, s.flags, u)
+    g = puts(writes, s.regs)
     if control[0] == "next":
         return "running", State(end, g, flags, s.calls)
     if control[0] == "goes":

@@ -19,7 +19,7 @@ use Rattle.x86.specs.Instr.{Alu, ADD, OR, AND, SUB, XOR, CMP, MOV, TEST, Plain,
 use Rattle.x86.specs.Encode.{len}
 use Rattle.x86.specs.Decode.{got, decode}
 use Rattle.x86.specs.Code.{Dest, near, to, mapI, field, lowered, bytes, codeOf}
-use Rattle.processor.specs.Machine.{Regs, rd, puts, result, aluSets, extended, down, up, Input, State, Frame, Outcome, running, finished, faulted, unbalanced, divided, astray, setsOf, statusOf, faultsOf, holds, Effect, next, raises, goes, effect, moved, helped, returned, land, touches, step, after, run, follow, topOf, Entry, EntersFrom}
+use Rattle.processor.specs.Machine.{Regs, rd, puts, result, aluWrites, extended, down, up, Input, State, Frame, Outcome, running, finished, faulted, unbalanced, divided, astray, writesOf, statusOf, faultsOf, holds, Effect, next, raises, goes, effect, moved, helped, returned, land, touches, step, after, run, follow, topOf, Entry, EntersFrom}
 use Rattle.processor.specs.Placed.{Want, want, fits, skip, met, passes, passes-at}
 use Rattle.processor.specs.Reads.{WfCode, lower, fetch-at, fetch-len}
 use Rattle.processor.specs.Facts.{memb, keysOf, keys-of, puts-other, not-false}
@@ -175,11 +175,11 @@ add-below x d y t l h = omega arith
 
 -- What a steady instruction leaves.
 module _ (g : Regs) (d t : ℕ) (b : (g RSP + d) % 2 ^ 64 ≡ t) where
-  kept-below : (p : Plain) (u : Input) → T (keepsRsp p) → (puts (setsOf p g u) g RSP + d) % 2 ^ 64 ≡ t
-  kept-below p u k = rw (puts-other (setsOf p g u) g RSP (rw (keys-of p g u) (not-false (memb RSP (keysOf p)) k))) b
+  kept-below : (p : Plain) (u : Input) → T (keepsRsp p) → (puts (writesOf p g u) g RSP + d) % 2 ^ 64 ≡ t
+  kept-below p u k = rw (puts-other (writesOf p g u) g RSP (rw (keys-of p g u) (not-false (memb RSP (keysOf p)) k))) b
 
   adjusted-below : (o : Alu) (w : Width) (y r : ℕ) → eqb r RSP ≡ true → T (adjusts o w d y)
-      → (puts (aluSets o r (result o w (rd w g r) (extended w y))) g RSP + adjusted o d y) % 2 ^ 64 ≡ t
+      → (puts (aluWrites o r (result o w (rd w g r) (extended w y))) g RSP + adjusted o d y) % 2 ^ 64 ≡ t
   unfolding rd result
   adjusted-below ADD W32 y r e k = absurd k
   adjusted-below ADD W64 y r e k =
@@ -197,7 +197,7 @@ module _ (g : Regs) (d t : ℕ) (b : (g RSP + d) % 2 ^ 64 ≡ t) where
   adjusted-below MOV w y r e k = absurd k
   adjusted-below TEST w y r e k = absurd k
 
-  below-of : (p : Plain) (u : Input) → T (steady p d) → (puts (setsOf p g u) g RSP + sinks p d) % 2 ^ 64 ≡ t
+  below-of : (p : Plain) (u : Input) → T (steady p d) → (puts (writesOf p g u) g RSP + sinks p d) % 2 ^ 64 ≡ t
   below-of (push r) u k = push-below (g RSP) d t b
   below-of (pop r) u k =
       rw (not-false (eqb RSP r) (and-r (leb 8 d) (not (eqb RSP r)) k))
@@ -205,7 +205,7 @@ module _ (g : Regs) (d t : ℕ) (b : (g RSP + d) % 2 ^ 64 ≡ t) where
   below-of (alu o w s r) u k = kept-below (alu o w s r) u k
   below-of (aluImm o w r x) u k = go (eqb r RSP) refl
     where
-      go : (z : Bool) → eqb r RSP ≡ z → (puts (setsOf (aluImm o w r x) g u) g RSP + sinks (aluImm o w r x) d) % 2 ^ 64 ≡ t
+      go : (z : Bool) → eqb r RSP ≡ z → (puts (writesOf (aluImm o w r x) g u) g RSP + sinks (aluImm o w r x) d) % 2 ^ 64 ≡ t
       go true e = rw e (adjusted-below o w x r e (rw e at k))
       go false e = rw e (kept-below (aluImm o w r x) u (rw e at k))
   below-of (shiftImm o w r i) u k = kept-below (shiftImm o w r i) u k
@@ -261,7 +261,7 @@ module _ (cells : List Cell) (loc : ℕ → ℕ) (a x j r : ℕ) (good : T (bala
       (λ e. record { deep = d; place = record { pre = v .pre; cell = v .cell; post = v .post; split = v .split; at = v .at; fit = e }; below = b; opens = o })
       (λ g. absurd (n (enters (gates (t .pos) (level d) v g))))
 
-  returns-evenly : (p : ℕ) (s : State) (e : Effect ℕ) (b : ℕ) (k : List Frame) → p ≢ j → puts (e .sets) (s .regs) RSP ≡ up (s .regs RSP)
+  returns-evenly : (p : ℕ) (s : State) (e : Effect ℕ) (b : ℕ) (k : List Frame) → p ≢ j → puts (e .writes) (s .regs) RSP ≡ up (s .regs RSP)
       → s .regs RSP % 2 ^ 64 ≡ topOf r k % 2 ^ 64 → Opens cells r k → Evenly p (returned s e b k)
   returns-evenly p s e b [] n q h o = q ∙ omega arith
   returns-evenly p s e b (f ∷ k) n q h o = go (eqb b (f .back))
@@ -322,7 +322,7 @@ module _ (cells : List Cell) (loc : ℕ → ℕ) (a x j r : ℕ) (good : T (bala
     lands : (i : Instr Dest) → Stands i → T (evenAt a d i) → T (met cellLen (depths d i) post) → Lands i
     lands (op p) e t m = go (faultsOf p (s .regs))
       where
-        go : (z : Bool) → Evenly (extent pre) (land (end (op p)) s u (record { sets = setsOf p (s .regs) u; flags = statusOf p (s .regs) (s .flags) u; control = pick z raises next }) (pick z raises next))
+        go : (z : Bool) → Evenly (extent pre) (land (end (op p)) s u (record { writes = writesOf p (s .regs) u; flags = statusOf p (s .regs) (s .flags) u; control = pick z raises next }) (pick z raises next))
         go true = tt
         go false =
             arrives (extent pre) _ (sinks p d) (other (op p) e refl) (falls (op p) (level (sinks p d)) e (and-l (first (sinks p d)) true m))
@@ -366,7 +366,7 @@ module _ (cells : List Cell) (loc : ℕ → ℕ) (a x j r : ℕ) (good : T (bala
         x′ : ℕ
         x′ = field loc (end (jump (jcc f) (near k))) (near k)
 
-        go : (z : Bool) → Evenly (extent pre) (land (end (jump (jcc f) (near k))) s u (record { sets = []; flags = s .flags; control = pick z (goes x′) next }) (pick z (goes x′) next))
+        go : (z : Bool) → Evenly (extent pre) (land (end (jump (jcc f) (near k))) s u (record { writes = []; flags = s .flags; control = pick z (goes x′) next }) (pick z (goes x′) next))
         go true = arrives (extent pre) _ d n (skips (jump (jcc f) (near k)) k (level d) e (and-l (second k d) true (and-r (first d) (second k d && true) m))) b o
         go false = arrives (extent pre) _ d n (falls (jump (jcc f) (near k)) (level d) e (and-l (first d) (second k d && true) m)) b o
     lands (jump (jcc f) (to k)) e t m = go (holds f (s .flags))
@@ -377,7 +377,7 @@ module _ (cells : List Cell) (loc : ℕ → ℕ) (a x j r : ℕ) (good : T (bala
         x′ : ℕ
         x′ = field loc (end (jump (jcc f) (to k))) (to k)
 
-        go : (z : Bool) → Evenly (extent pre) (land (end (jump (jcc f) (to k))) s u (record { sets = []; flags = s .flags; control = pick z (goes x′) next }) (pick z (goes x′) next))
+        go : (z : Bool) → Evenly (extent pre) (land (end (jump (jcc f) (to k))) s u (record { writes = []; flags = s .flags; control = pick z (goes x′) next }) (pick z (goes x′) next))
         go true = arrives (extent pre) _ 0 n (jumps (jump (jcc f) (to k)) k (level 0) e (labels k)) (rw (eqb→eq d 0 t) at b) o
         go false = arrives (extent pre) _ d n (falls (jump (jcc f) (to k)) (level d) e (and-l (first d) true m)) b o
     lands (callReg q) e t m =

@@ -17,7 +17,7 @@ use Rattle.base.specs.declared.Width.{Width}
 use Rattle.base.specs.declared.Width.the-variants.{W32, W64}
 use Rattle.x86.specs.Registers.{RAX, RDX, RSP}
 use Rattle.x86.specs.Instr.{Alu, ADD, OR, AND, SUB, XOR, CMP, MOV, TEST, Unary, NEG, MUL, DIV, Cond, JB, JAE, JE, JNE, JBE, JA, JL, JGE, JLE, JG, Plain, push, pop, alu, aluImm, shiftImm, shiftCl, unary, movabs, rol16, bswap, load, store, storeImm, WfPlain}
-use Rattle.processor.specs.Machine.{Regs, bits, rd, put, Set, puts, Status, Input, extended, result, aluSets, aluStatus, dividend, divides, setsOf, statusOf, faultsOf, holds}
+use Rattle.processor.specs.Machine.{Regs, bits, rd, put, Write, puts, Status, Input, extended, result, aluWrites, aluStatus, dividend, divides, writesOf, statusOf, faultsOf, holds}
 
 -- nz: not zero at that width; zr: zero; fz: ZF says whether it is zero
 pub data Fact : Type 0 where
@@ -37,7 +37,7 @@ abbrev pub memb : ℕ → List ℕ → Bool
 memb r [] = false
 memb r (k ∷ l) = eqb r k || memb r l
 
-abbrev pub keys : List Set → List ℕ
+abbrev pub keys : List Write → List ℕ
 keys [] = []
 keys (a ∷ l) = a .key ∷ keys l
 
@@ -269,13 +269,13 @@ put-other g k v r e = rw e
 put-same : (g : Regs) (d v : ℕ) → put g d v d ≡ v
 put-same g d v = rw (eqb-true d d refl)
 
-pub puts-other : (l : List Set) (g : Regs) (r : ℕ) → memb r (keys l) ≡ false → puts l g r ≡ g r
+pub puts-other : (l : List Write) (g : Regs) (r : ℕ) → memb r (keys l) ≡ false → puts l g r ≡ g r
 puts-other [] g r e = refl
 puts-other (a ∷ l) g r e =
     puts-other l (put g (a .key) (a .to)) r (or-false-r (eqb r (a .key)) (memb r (keys l)) e)
     ∙ put-other g (a .key) (a .to) r (or-false-l (eqb r (a .key)) (memb r (keys l)) e)
 
-rd-puts : (w : Width) (l : List Set) (g : Regs) (r : ℕ) → memb r (keys l) ≡ false → rd w (puts l g) r ≡ rd w g r
+rd-puts : (w : Width) (l : List Write) (g : Regs) (r : ℕ) → memb r (keys l) ≡ false → rd w (puts l g) r ≡ rd w g r
 unfolding rd
 rd-puts w l g r e = rw (puts-other l g r e)
 
@@ -283,7 +283,7 @@ pub not-false : (b : Bool) → T (not b) → b ≡ false
 not-false true t = absurd t
 not-false false t = refl
 
-module _ (l : List Set) (b : Bool) (g : Regs) (f f′ : Status) (q : T b → f′ ≡ f) where
+module _ (l : List Write) (b : Bool) (g : Regs) (f f′ : Status) (q : T b → f′ ≡ f) where
   stays-holds : (a : Fact) → T (stays (keys l) b a) → Holds a g f → Holds a (puts l g) f′
   stays-holds (nz w r) t h = rw (rd-puts w l g r (not-false _ t)) h
   stays-holds (zr w r) t h = rw (rd-puts w l g r (not-false _ t)) h
@@ -298,7 +298,7 @@ module _ (l : List Set) (b : Bool) (g : Regs) (f f′ : Status) (q : T b → f�
       go false e more = rw e more
 
 -- what an instruction says that it writes and leaves, it does
-alu-keys : (o : Alu) (d v : ℕ) → keys (aluSets o d v) ≡ aluKeys o d
+alu-keys : (o : Alu) (d v : ℕ) → keys (aluWrites o d v) ≡ aluKeys o d
 alu-keys ADD d v = refl
 alu-keys OR d v = refl
 alu-keys AND d v = refl
@@ -308,7 +308,7 @@ alu-keys CMP d v = refl
 alu-keys MOV d v = refl
 alu-keys TEST d v = refl
 
-pub keys-of : (p : Plain) (g : Regs) (u : Input) → keys (setsOf p g u) ≡ keysOf p
+pub keys-of : (p : Plain) (g : Regs) (u : Input) → keys (writesOf p g u) ≡ keysOf p
 keys-of (push r) g u = refl
 keys-of (pop r) g u = refl
 keys-of (alu o w s d) g u = alu-keys o d (result o w (rd w g d) (rd w g s))
@@ -399,7 +399,7 @@ not-zero x e q = let z : true ≡ false = sym (eqb-true x 0 q) ∙ e in let y : 
 
 module _ (w : Width) (s d : ℕ) (g : Regs) (f : Status) (F : List Fact) (k : Known F g f) where
   abbrev AluKnown : Alu → Width → Type 0
-  AluKnown o w = Known (aluNew o w s d F) (puts (aluSets o d (result o w (rd w g d) (rd w g s))) g) (aluStatus o w (rd w g d) (rd w g s) f)
+  AluKnown o w = Known (aluNew o w s d F) (puts (aluWrites o d (result o w (rd w g d) (rd w g s))) g) (aluStatus o w (rd w g d) (rd w g s) f)
 
   xor-known : (b : Bool) → eqb s d ≡ b → AluKnown XOR w
   unfolding result
@@ -429,7 +429,7 @@ module _ (w : Width) (s d : ℕ) (g : Regs) (f : Status) (F : List Fact) (k : Kn
   alu-known TEST = test-known (eqb s d) refl
 
 imm-known : (o : Alu) (w : Width) (d x : ℕ) (g : Regs) (f : Status) → x < 2 ^ 32
-    → Known (immNew o w d x) (puts (aluSets o d (result o w (rd w g d) (extended w x))) g) f
+    → Known (immNew o w d x) (puts (aluWrites o d (result o w (rd w g d) (extended w x))) g) f
 unfolding result
 imm-known ADD w d x g f h = tt
 imm-known OR w d x g f h = tt
@@ -445,7 +445,7 @@ imm-known MOV w d x g f h = go (eqb x 0) refl
 imm-known TEST w d x g f h = tt
 
 news-known : (p : Plain) (g : Regs) (f : Status) (u : Input) (F : List Fact) → WfPlain p → Known F g f
-    → Known (news p F) (puts (setsOf p g u) g) (statusOf p g f u)
+    → Known (news p F) (puts (writesOf p g u) g) (statusOf p g f u)
 news-known (push r) g f u F t k = tt
 news-known (pop r) g f u F t k = tt
 news-known (alu o w s d) g f u F t k = alu-known w s d g f F k o
@@ -462,9 +462,9 @@ news-known (storeImm z b x i) g f u F t k = tt
 
 -- Soundness: what an instruction leaves holds behind it.
 pub leaves-known : (p : Plain) (g : Regs) (f : Status) (u : Input) (F : List Fact) → WfPlain p → Known F g f
-    → Known (leaves p F) (puts (setsOf p g u) g) (statusOf p g f u)
+    → Known (leaves p F) (puts (writesOf p g u) g) (statusOf p g f u)
 leaves-known p g f u F t k =
-    let l = setsOf p g u in
+    let l = writesOf p g u in
     let f′ = statusOf p g f u in
     known-append (news p F) (keep (keysOf p) (quiet p) F) (puts l g) f′ (news-known p g f u F t k)
     (rw (keys-of p g u) at (keep-known l (quiet p) g f f′ (quiet-of p g f u) F k))

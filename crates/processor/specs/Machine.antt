@@ -36,14 +36,14 @@ abbrev pub put : Regs → ℕ → ℕ → Regs
 put g k v = λ r. pick (eqb r k) v (g r)
 
 -- one register's new value, and several, the first of them first
-pub record Set : Type 0 where
+pub record Write : Type 0 where
   pub key : ℕ
   pub to : ℕ
 
-abbrev pub set : ℕ → ℕ → Set
-set k v = record { key = k; to = v }
+abbrev pub write : ℕ → ℕ → Write
+write k v = record { key = k; to = v }
 
-abbrev pub puts : List Set → Regs → Regs
+abbrev pub puts : List Write → Regs → Regs
 puts [] g = g
 puts (a ∷ l) g = puts l (put g (a .key) (a .to))
 
@@ -92,15 +92,15 @@ result MOV w a b = b
 result TEST w a b = bitAnd a b
 
 -- CMP and TEST set the flags alone
-abbrev pub aluSets : Alu → (dst value : ℕ) → List Set
-aluSets ADD d v = set d v ∷ []
-aluSets OR d v = set d v ∷ []
-aluSets AND d v = set d v ∷ []
-aluSets SUB d v = set d v ∷ []
-aluSets XOR d v = set d v ∷ []
-aluSets CMP d v = []
-aluSets MOV d v = set d v ∷ []
-aluSets TEST d v = []
+abbrev pub aluWrites : Alu → (dst value : ℕ) → List Write
+aluWrites ADD d v = write d v ∷ []
+aluWrites OR d v = write d v ∷ []
+aluWrites AND d v = write d v ∷ []
+aluWrites SUB d v = write d v ∷ []
+aluWrites XOR d v = write d v ∷ []
+aluWrites CMP d v = []
+aluWrites MOV d v = write d v ∷ []
+aluWrites TEST d v = []
 
 -- the carry out of a sum, and the borrow of a difference
 abbrev pub carry : Width → ℕ → ℕ → Bool
@@ -222,29 +222,29 @@ sizeBits S32 = 32
 sizeBits S64 = 64
 
 -- The registers that each writes. POP raises RSP before it writes, so that POP RSP leaves what was popped.
-abbrev pub unarySets : Unary → Width → Regs → ℕ → List Set
-unarySets NEG w g r = set r (opposite w (rd w g r)) ∷ []
-unarySets MUL w g r = set RAX (product w g r % 2 ^ bits w) ∷ set RDX (product w g r / 2 ^ bits w) ∷ []
-unarySets DIV w g r = set RAX (dividend w g / rd w g r) ∷ set RDX (dividend w g % rd w g r) ∷ []
+abbrev pub unaryWrites : Unary → Width → Regs → ℕ → List Write
+unaryWrites NEG w g r = write r (opposite w (rd w g r)) ∷ []
+unaryWrites MUL w g r = write RAX (product w g r % 2 ^ bits w) ∷ write RDX (product w g r / 2 ^ bits w) ∷ []
+unaryWrites DIV w g r = write RAX (dividend w g / rd w g r) ∷ write RDX (dividend w g % rd w g r) ∷ []
 
 abbrev pub swapBytes : Width → ℕ
 swapBytes W32 = 4
 swapBytes W64 = 8
 
-abbrev pub setsOf : Plain → Regs → Input → List Set
-setsOf (push r) g u = set RSP (down (g RSP)) ∷ []
-setsOf (pop r) g u = set RSP (up (g RSP)) ∷ set r (u .value % 2 ^ 64) ∷ []
-setsOf (alu o w s d) g u = aluSets o d (result o w (rd w g d) (rd w g s))
-setsOf (aluImm o w d i) g u = aluSets o d (result o w (rd w g d) (extended w i))
-setsOf (shiftImm o w d i) g u = set d (shifted o w (rd w g d) (counted w i)) ∷ []
-setsOf (shiftCl o w d) g u = set d (shifted o w (rd w g d) (counted w (inCl g))) ∷ []
-setsOf (unary o w r) g u = unarySets o w g r
-setsOf (movabs d i) g u = set d (i % 2 ^ 64) ∷ []
-setsOf (rol16 d i) g u = set d (keptAbove16 (rd W64 g d) (rolled (rd W64 g d) (rolCount i))) ∷ []
-setsOf (bswap w d) g u = set d (swapped (swapBytes w) (rd w g d)) ∷ []
-setsOf (load z b d x) g u = set d (u .value % 2 ^ sizeBits z) ∷ []
-setsOf (store z s b x) g u = []
-setsOf (storeImm z b x i) g u = []
+abbrev pub writesOf : Plain → Regs → Input → List Write
+writesOf (push r) g u = write RSP (down (g RSP)) ∷ []
+writesOf (pop r) g u = write RSP (up (g RSP)) ∷ write r (u .value % 2 ^ 64) ∷ []
+writesOf (alu o w s d) g u = aluWrites o d (result o w (rd w g d) (rd w g s))
+writesOf (aluImm o w d i) g u = aluWrites o d (result o w (rd w g d) (extended w i))
+writesOf (shiftImm o w d i) g u = write d (shifted o w (rd w g d) (counted w i)) ∷ []
+writesOf (shiftCl o w d) g u = write d (shifted o w (rd w g d) (counted w (inCl g))) ∷ []
+writesOf (unary o w r) g u = unaryWrites o w g r
+writesOf (movabs d i) g u = write d (i % 2 ^ 64) ∷ []
+writesOf (rol16 d i) g u = write d (keptAbove16 (rd W64 g d) (rolled (rd W64 g d) (rolCount i))) ∷ []
+writesOf (bswap w d) g u = write d (swapped (swapBytes w) (rd w g d)) ∷ []
+writesOf (load z b d x) g u = write d (u .value % 2 ^ sizeBits z) ∷ []
+writesOf (store z s b x) g u = []
+writesOf (storeImm z b x i) g u = []
 
 -- The flags behind each. PUSH, POP, MOV, BSWAP, loads and stores leave them.
 abbrev pub unaryStatus : Unary → Width → Regs → ℕ → Input → Status
@@ -331,21 +331,21 @@ pub data Control (D : Type 0) : Type 0 where
   goes calls : D → Control D
 
 pub record Effect (D : Type 0) : Type 0 where
-  pub sets : List Set
+  pub writes : List Write
   pub flags : Status
   pub control : Control D
 
 -- what a call or a jump does alone
 abbrev pub jumps : {D : Type 0} → Jump → D → Regs → Status → Effect D
-jumps jmp x g f = record { sets = []; flags = f; control = goes x }
-jumps call x g f = record { sets = set RSP (down (g RSP)) ∷ []; flags = f; control = calls x }
-jumps (jcc c) x g f = record { sets = []; flags = f; control = pick (holds c f) (goes x) next }
+jumps jmp x g f = record { writes = []; flags = f; control = goes x }
+jumps call x g f = record { writes = write RSP (down (g RSP)) ∷ []; flags = f; control = calls x }
+jumps (jcc c) x g f = record { writes = []; flags = f; control = pick (holds c f) (goes x) next }
 
 abbrev pub effect : {D : Type 0} → Instr D → Regs → Status → Input → Effect D
-effect (op p) g f u = record { sets = setsOf p g u; flags = statusOf p g f u; control = pick (faultsOf p g) raises next }
+effect (op p) g f u = record { writes = writesOf p g u; flags = statusOf p g f u; control = pick (faultsOf p g) raises next }
 effect (jump j x) g f u = jumps j x g f
-effect (callReg r) g f u = record { sets = []; flags = f; control = helps }
-effect ret g f u = record { sets = set RSP (up (g RSP)) ∷ []; flags = f; control = returns }
+effect (callReg r) g f u = record { writes = []; flags = f; control = helps }
+effect ret g f u = record { writes = write RSP (up (g RSP)) ∷ []; flags = f; control = returns }
 
 -- JMP rel32, Jcc rel32, CALL rel32: the field, extended by its sign, is added to the instruction's end, modulo 2 ^ 64.
 unfoldable pub follow : (end field : ℕ) → ℕ
@@ -369,7 +369,7 @@ pub data Outcome : Type 0 where
   faulted unbalanced divided astray : Outcome
 
 abbrev pub moved : State → Effect ℕ → (pos : ℕ) → List Frame → State
-moved s e p k = record { pos = p; regs = puts (e .sets) (s .regs); flags = e .flags; calls = k }
+moved s e p k = record { pos = p; regs = puts (e .writes) (s .regs); flags = e .flags; calls = k }
 
 -- a helper has returned: any value in any register but RSP, and any flags
 abbrev pub helped : State → Input → (pos : ℕ) → State
@@ -383,7 +383,7 @@ returned s e b (f ∷ k) = pick (eqb b (f .back)) (running (moved s e (f .back) 
 abbrev pub land : (end : ℕ) → State → Input → Effect ℕ → Control ℕ → Outcome
 land p s u e next = running (moved s e p (s .calls))
 land p s u e (goes x) = running (moved s e (follow p x) (s .calls))
-land p s u e (calls x) = running (moved s e (follow p x) (record { back = p; sp = puts (e .sets) (s .regs) RSP } ∷ s .calls))
+land p s u e (calls x) = running (moved s e (follow p x) (record { back = p; sp = puts (e .writes) (s .regs) RSP } ∷ s .calls))
 land p s u e helps = running (helped s u p)
 land p s u e returns = returned s e (u .back) (s .calls)
 land p s u e raises = divided

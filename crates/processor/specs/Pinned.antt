@@ -15,7 +15,7 @@ use Rattle.base.specs.declared.Width.{Width}
 use Rattle.base.specs.declared.Size.{Size}
 use Rattle.x86.specs.Registers.{RSP}
 use Rattle.x86.specs.Instr.{Shift, MUL, DIV, Instr, pop, unary, load, callReg, ret}
-use Rattle.processor.specs.Machine.{Regs, set, Status, Input, State, running, finished, faulted, moved, helped, effect, does, touches, setsOf, statusOf, sizeBits, shiftStatus, rolStatus, up}
+use Rattle.processor.specs.Machine.{Regs, write, Status, Input, State, running, finished, faulted, moved, helped, effect, does, touches, writesOf, statusOf, sizeBits, shiftStatus, rolStatus, up}
 
 abbrev given : (value back : ℕ) → Regs → Status → Input
 given v b g f = record { allowed = true; value = v; back = b; regs = g; flags = f }
@@ -35,11 +35,11 @@ helper-any r p s g f =
     (u, (helped s u p, refl, record { at = refl; others = λ q n h. ap (λ (b : Bool). pick b (s .regs RSP) (g q % 2 ^ 64)) (eqb-false q RSP n) ∙ mod-eq-of-lt h; stack = refl; flags = refl; calls = refl }))
 
 -- a load gives any value of its size, a pop any value
-pub load-any : (z : Size) (b d x v : ℕ) (g : Regs) → v < 2 ^ sizeBits z → (u : Input) × (setsOf (load z b d x) g u ≡ set d v ∷ [])
-load-any z b d x v g h = (given v 0 g (record { CF = false; ZF = false; SF = false; OF = false }), ap (λ (n : ℕ). set d n ∷ []) (mod-eq-of-lt h))
+pub load-any : (z : Size) (b d x v : ℕ) (g : Regs) → v < 2 ^ sizeBits z → (u : Input) × (writesOf (load z b d x) g u ≡ write d v ∷ [])
+load-any z b d x v g h = (given v 0 g (record { CF = false; ZF = false; SF = false; OF = false }), ap (λ (n : ℕ). write d n ∷ []) (mod-eq-of-lt h))
 
-pub pop-any : (r v : ℕ) (g : Regs) → v < 2 ^ 64 → (u : Input) × (setsOf (pop r) g u ≡ set RSP (up (g RSP)) ∷ set r v ∷ [])
-pop-any r v g h = (given v 0 g (record { CF = false; ZF = false; SF = false; OF = false }), ap (λ (n : ℕ). set RSP (up (g RSP)) ∷ set r n ∷ []) (mod-eq-of-lt h))
+pub pop-any : (r v : ℕ) (g : Regs) → v < 2 ^ 64 → (u : Input) × (writesOf (pop r) g u ≡ write RSP (up (g RSP)) ∷ write r v ∷ [])
+pop-any r v g h = (given v 0 g (record { CF = false; ZF = false; SF = false; OF = false }), ap (λ (n : ℕ). write RSP (up (g RSP)) ∷ write r n ∷ []) (mod-eq-of-lt h))
 
 -- undefined flags: all of DIV's, ZF and SF of MUL's, OF of a shift or a rotation by more than 1
 pub div-any : (w : Width) (r : ℕ) (g : Regs) (f h : Status) → (u : Input) × (statusOf (unary DIV w r) g f u ≡ h)

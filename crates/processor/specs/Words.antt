@@ -19,7 +19,7 @@ use Rattle.base.specs.declared.Size.the-variants.{S8, S16, S32, S64}
 use Rattle.x86.specs.Registers.{RAX}
 use Rattle.x86.specs.Instr.{Alu, ADD, OR, AND, SUB, XOR, CMP, MOV, TEST, Shift, SHL, SHR, SAR, Unary, NEG, MUL, DIV, Plain, push, pop, alu, aluImm, shiftImm, shiftCl, unary, movabs, rol16, bswap, load, store, storeImm, WfPlain}
 use Rattle.processor.specs.Facts.{rd-lt}
-use Rattle.processor.specs.Machine.{Regs, bits, rd, put, puts, Set, Input, extended, negative, result, aluSets, counted, inCl, shifted, rolled, swapped, swapBytes, dividend, divides, sizeBits, unarySets, unaryFaults, setsOf, faultsOf}
+use Rattle.processor.specs.Machine.{Regs, bits, rd, put, puts, Write, Input, extended, negative, result, aluWrites, counted, inCl, shifted, rolled, swapped, swapBytes, dividend, divides, sizeBits, unaryWrites, unaryFaults, writesOf, faultsOf}
 
 -- the results of an operation, at its width
 result-lt : (o : Alu) (w : Width) (a b : ℕ) → a < 2 ^ bits w → b < 2 ^ bits w → result o w a b < 2 ^ bits w
@@ -108,11 +108,11 @@ mod-word W32 n = omega arith
 mod-word W64 n = omega arith
 
 -- What is written.
-abbrev Below : List Set → Type 0
+abbrev Below : List Write → Type 0
 Below [] = Unit {0}
 Below (a ∷ l) = (a .to < 2 ^ 64) × Below l
 
-alu-below : (o : Alu) (d v : ℕ) → v < 2 ^ 64 → Below (aluSets o d v)
+alu-below : (o : Alu) (d v : ℕ) → v < 2 ^ 64 → Below (aluWrites o d v)
 alu-below ADD d v h = (h, tt)
 alu-below OR d v h = (h, tt)
 alu-below AND d v h = (h, tt)
@@ -126,7 +126,7 @@ not-zero : (x : ℕ) → eqb x 0 ≡ false → zero < x
 not-zero zero e = let z : _≡_ {A = ℕ} 0 1 = cc in absurd (omega arith)
 not-zero (suc x) e = omega arith
 
-unary-below : (o : Unary) (w : Width) (g : Regs) (r : ℕ) → unaryFaults o w g r ≡ false → Below (unarySets o w g r)
+unary-below : (o : Unary) (w : Width) (g : Regs) (r : ℕ) → unaryFaults o w g r ≡ false → Below (unaryWrites o w g r)
 unfolding divides
 unary-below NEG w g r f = (mod-word w _, tt)
 unary-below MUL w g r f = (mod-word w _, (word w _ (upper-lt w (rd w g RAX) (rd w g r) (rd-lt w g RAX) (rd-lt w g r)), tt))
@@ -142,7 +142,7 @@ loaded-lt S16 v = omega arith
 loaded-lt S32 v = omega arith
 loaded-lt S64 v = omega arith
 
-written : (p : Plain) (g : Regs) (u : Input) → WfPlain p → faultsOf p g ≡ false → Below (setsOf p g u)
+written : (p : Plain) (g : Regs) (u : Input) → WfPlain p → faultsOf p g ≡ false → Below (writesOf p g u)
 written (push r) g u h f = (omega arith, tt)
 written (pop r) g u h f = (omega arith, (omega arith, tt))
 written (alu o w s d) g u h f = alu-below o d _ (word w _ (result-lt o w (rd w g d) (rd w g s) (rd-lt w g d) (rd-lt w g s)))
@@ -157,7 +157,7 @@ written (load z b d x) g u h f = (loaded-lt z (u .value), tt)
 written (store z s b x) g u h f = tt
 written (storeImm z b x i) g u h f = tt
 
-puts-words : (l : List Set) (g : Regs) → Below l → ((r : ℕ) → g r < 2 ^ 64) → (r : ℕ) → puts l g r < 2 ^ 64
+puts-words : (l : List Write) (g : Regs) → Below l → ((r : ℕ) → g r < 2 ^ 64) → (r : ℕ) → puts l g r < 2 ^ 64
 puts-words [] g b h r = h r
 puts-words (a ∷ l) g b h r = puts-words l (put g (a .key) (a .to)) (b .1) (λ q. by (eqb q (a .key)) q) r
   where
@@ -167,5 +167,5 @@ puts-words (a ∷ l) g b h r = puts-words l (put g (a .key) (a .to)) (b .1) (λ 
 
 -- So registers that are words stay words.
 pub stay-words : (p : Plain) (g : Regs) (u : Input) → WfPlain p → faultsOf p g ≡ false → ((r : ℕ) → g r < 2 ^ 64) → (r : ℕ)
-    → puts (setsOf p g u) g r < 2 ^ 64
-stay-words p g u h f w = puts-words (setsOf p g u) g (written p g u h f) w
+    → puts (writesOf p g u) g r < 2 ^ 64
+stay-words p g u h f w = puts-words (writesOf p g u) g (written p g u h f) w
