@@ -125,7 +125,7 @@ pub record Skips (x : Inputs) (j : Jump) (v e : ℕ) (behind : List (Instr ℕ))
   pub slot : SlotAt x t q block
   pub width : Width
   pub divides : kindOf (insnAt (x .program) t .opc) ≡ Known (MulDivMod Div width Reg)
-  pub from : q < e
+  pub from : q + len {D = ℕ} (jump j v) ≤ e
   pub within : follow e v + len next ≤ q + size (block .code)
 
 pub data Unlisted (x : Inputs) (fields : List ℕ) (j : Jump) (v e : ℕ) (behind : List (Instr ℕ)) : Type 0 where

@@ -55,31 +55,31 @@ same-block (y ∷ a) (w ∷ d) b c behind beyond k e f g h i =
     let r = same-block a d b c behind beyond (k - size (y .code)) (cc) (omega (arith, n, f)) (omega (arith, n, f, g)) (omega (arith, m, z, h)) (omega (arith, m, z, h, i)) in
     (rw (t, r .0), r .1)
 
--- A skip: it stands in one slot, and what that slot's opcode says is the skip's.
+-- A skip, in the slot that holds it.
 module _ (x : Inputs) (j : Jump) (v e : ℕ) (behind : List (Instr ℕ)) (s : Skips x j v e behind) where
   module _ (t q : ℕ) (b : Block) (here : SlotAt x t q b) (from : q < e) (within : e ≤ q + size (b .code)) where
     its-slot : (s .t ≡ t) × (s .q ≡ q) × (s .block ≡ b)
     its-slot =
         let front = size (prologue (x .flags)) in
         let o = s .slot in
-        let r = same-block (o .ahead) (here .ahead) (s .block) b (o .behind) (here .behind) (e - front) (sym (o .split) ∙ here .split) (omega (arith, o .place, s .from))
+        let r = same-block (o .ahead) (here .ahead) (s .block) b (o .behind) (here .behind) (e - front) (sym (o .split) ∙ here .split) (omega (arith, o .place, s .from, len-some {D = ℕ} (jump j v)))
         (omega (arith, o .place, s .goes, s .within)) (omega (arith, here .place, from)) (omega (arith, here .place, within)) in
         let h = r .0 in
         (sym (o .number) ∙ rw h (here .number), sym (o .place) ∙ rw h (here .place), r .1)
 
-    -- out of it
+    -- that goes out of it
     pub skip-out-of-slot : q + size (b .code) ≤ follow e v → ⊥
     skip-out-of-slot h =
         let z = its-slot in
         let n : s .q + size (s .block .code) ≡ q + size (b .code) = rw (z .1, z .2) in
         omega (arith, h, n, s .within, len-some (s .next))
 
-    -- in a slot that does not divide by a register
+    -- that stands in one which does not divide by a register
     pub skip-without-division : ((w : Width) → kindOf (insnAt (x .program) t .opc) ≢ Known (MulDivMod Div w Reg)) → ⊥
     skip-without-division n = n (s .width) (rw (its-slot .0) at (s .divides))
 
-  -- in the prologue, in the epilogue
-  pub skip-in-prologue : e ≤ size (prologue (x .flags)) → ⊥
+  -- that begins in the prologue, and that goes to the epilogue
+  pub skip-in-prologue : e < size (prologue (x .flags)) + len {D = ℕ} (jump j v) → ⊥
   skip-in-prologue h = omega (arith, h, s .from, s .slot .place)
 
   pub skip-to-epilogue : size (prologue (x .flags)) + size (flat (blocksOf x)) ≤ follow e v → ⊥
