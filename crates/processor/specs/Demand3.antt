@@ -90,12 +90,12 @@ pub record ExitAt (code : List ℕ) (is : List (Instr ℕ)) (p : ℕ) : Type 0 w
   pub place : span len before ≡ p
   pub ends : p + 16 ≡ length code
 
--- p is where target t lies: the start of the slot meant, the exit, or the page's first byte where the location table says 0. A target other
--- than the exit has an entry in that table.
+-- p is where target t lies: the start of the slot meant, the exit, or, where no slot begins by that number and the location table says 0,
+-- the page's first byte. A target other than the exit has an entry in that table.
 pub data Meant (x : Inputs) (code : List ℕ) (is : List (Instr ℕ)) (locs : List ℕ) (t p : ℕ) : Type 0 where
   slot : (b : Block) → t < length locs → t ≢ anchor → SlotAt x t p b → getD locs t 0 ≡ p → Meant x code is locs t p
   exit : t ≡ anchor → ExitAt code is p → Meant x code is locs t p
-  first : t < length locs → t ≢ anchor → getD locs t 0 ≡ 0 → p ≡ 0 → Meant x code is locs t p
+  first : t < length locs → t ≢ anchor → ((q : ℕ) (b : Block) → SlotAt x t q b → ⊥) → getD locs t 0 ≡ 0 → p ≡ 0 → Meant x code is locs t p
 
 -- the field at f is the last four bytes of a jump, conditional jump or call, and the processor, following it, goes where target t lies
 pub record Lands (x : Inputs) (code : List ℕ) (is : List (Instr ℕ)) (locs : List ℕ) (f t : ℕ) : Type 0 where

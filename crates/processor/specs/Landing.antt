@@ -328,7 +328,7 @@ module _ (x : Inputs) (bs : List Block) (is-blocks : blocksOf x ≡ bs) (from : 
       within e = or-elim (leb t n) (eqb t anchor) g (λ h. omega (arith, few, leb→le t n h)) (λ h. never (sym (T-true _ h) ∙ e))
 
       located : t < length locs → t ≢ anchor → Found 0 bs o t (size (prologue f)) (getD locs t 0) → Meant x code all locs t (getD locs t 0)
-      located l n (layout.first e) = first l n e e
+      located l n (layout.first m e) = first l n (λ q b s. m (s .ahead) b (s .behind) (sym is-blocks ∙ s .split) (s .number)) e e
       located l n (start q e s) =
           slot (s .block) l n (record { ahead = s .ahead; behind = s .behind; split = is-blocks ∙ s .split; number = s .number; place = rw (s .place) (sym e) }) refl
 

@@ -16,7 +16,7 @@ use Rattle.x86.specs.Code.{to, size, size-append}
 use Rattle.jit.specs.Limits.{anchor}
 use Rattle.jit.specs.Frame.{saves, packetStart, packetEnd, argument, enter, prologue, epilogue}
 use Rattle.jit.specs.Translation.{Block, slotsWide, flat, entries, starts, whole, locations, exitOf, placeOf}
-use Rattle.jit.specs.Bounds.{slotsIn}
+use Rattle.jit.specs.Bounds.{slotsIn, wide-some}
 use Rattle.jit.specs.declared.Flags.{Flags}
 use Rattle.processor.specs.Placed.{span-append, fits, at-head, at-most, unique}
 use Rattle.processor.specs.Reads.{WfCode, wf-append, len-some}
@@ -79,9 +79,31 @@ pub record Start (slot : ℕ) (bs : List Block) (o : Origins slot bs) (t q : ℕ
   pub far : extent above ≡ q
   pub passes : Passed (below ++ end)
 
+-- no slot begins by the number t, which is the program's end or the second half of a wide load
+abbrev pub Missed : List Block → ℕ → Type 0
+Missed bs t = (ahead : List Block) (b : Block) (behind : List Block) → bs ≡ ahead ++ b ∷ behind → slotsIn ahead ≡ t → ⊥
+
+missed-end : (t : ℕ) → Missed [] t
+missed-end t [] b behind e n = let z : _≡_ {A = ℕ} 0 1 = cc in omega arith
+missed-end t (a ∷ ahead) b behind e n = let z : _≡_ {A = ℕ} 0 1 = cc in omega arith
+
+missed-half : (b : Block) (bs : List Block) → b .wide ≡ true → Missed (b ∷ bs) 1
+missed-half b bs w [] c behind e n = omega (arith, n)
+missed-half b bs w (a ∷ ahead) c behind e n =
+    let h : b ≡ a = cc in
+    let m : slotsWide (a .wide) ≡ 2 = rw (← h, w) in
+    omega (arith, m, n)
+
+missed-later : (b : Block) (bs : List Block) (t : ℕ) → Missed bs t → Missed (b ∷ bs) (slotsWide (b .wide) + t)
+missed-later b bs t m [] c behind e n = omega (arith, n, wide-some (b .wide))
+missed-later b bs t m (a ∷ ahead) c behind e n =
+    let h : b ≡ a = cc in
+    let k : slotsWide (a .wide) ≡ slotsWide (b .wide) = rw h in
+    m ahead c behind (cc) (omega (arith, n, k))
+
 -- what a location says: 0, or a slot's start
 pub data Found (slot : ℕ) (bs : List Block) (o : Origins slot bs) (t p v : ℕ) : Type 0 where
-  first : v ≡ 0 → Found slot bs o t p v
+  first : Missed bs t → v ≡ 0 → Found slot bs o t p v
   start : (q : ℕ) → v ≡ p + q → Start slot bs o t q → Found slot bs o t p v
 
 module _ (slot : ℕ) (b : Block) (bs : List Block) (o : Origins slot (b ∷ bs)) where
@@ -121,12 +143,12 @@ module _ (slot : ℕ) (b : Block) (bs : List Block) (o : Origins slot (b ∷ bs)
 
   found-later : (t p v : ℕ) → Found (slot + slotsWide (b .wide)) bs (o .1) t (p + size (b .code)) v
       → Found slot (b ∷ bs) o (slotsWide (b .wide) + t) p v
-  found-later t p v (first e) = first e
+  found-later t p v (first m e) = first (missed-later b bs t m) e
   found-later t p v (start q e s) = start (size (b .code) + q) (e ∙ add-assoc p (size (b .code)) q) (later t q s)
 
 pub found : (p slot : ℕ) (bs : List Block) (o : Origins slot bs) (t : ℕ) → Found slot bs o t p (getD (starts p bs ++ (0 ∷ [])) t 0)
-found p slot [] o zero = first refl
-found p slot [] o (suc t) = first refl
+found p slot [] o zero = first (missed-end 0) refl
+found p slot [] o (suc t) = first (missed-end (suc t)) refl
 found p slot (b ∷ bs) o t = by (b .wide) refl t (λ u. found (p + size (b .code)) (slot + slotsWide (b .wide)) bs (o .1) u)
   where
     behind : List ℕ
@@ -141,7 +163,7 @@ found p slot (b ∷ bs) o t = by (b .wide) refl t (λ u. found (p + size (b .cod
     by : (w : Bool) → b .wide ≡ w → (t : ℕ) → ((u : ℕ) → Found next bs (o .1) u (p + size (b .code)) (getD (behind ++ (0 ∷ [])) u 0))
         → Found slot (b ∷ bs) o t p (getD ((entries p w ++ behind) ++ (0 ∷ [])) t 0)
     by true e zero ih = start 0 (omega arith) (start-here slot b bs o)
-    by true e (suc zero) ih = first refl
+    by true e (suc zero) ih = first (missed-half b bs e) refl
     by true e (suc (suc t)) ih = count (suc (suc t)) t (ap (λ (w : Bool). slotsWide w + t) e ∙ omega arith) (ih t)
     by false e zero ih = start 0 (omega arith) (start-here slot b bs o)
     by false e (suc t) ih = count (suc t) t (ap (λ (w : Bool). slotsWide w + t) e ∙ omega arith) (ih t)
@@ -207,7 +229,7 @@ module _ (f : Flags) (bs : List Block) (o : Origins 0 bs) where
     label t = by (eqb t anchor)
       where
         located : {v : ℕ} → Found 0 bs o t (size (prologue f)) v → Place pageCells v Q
-        located (first e) = rw e first-place
+        located (first m e) = rw e first-place
         located (start q e s) = rw e (cut-place (s .above) (s .below) q (s .cut) (s .far) (s .passes))
 
         by : (b : Bool) → Place pageCells (pick b (exitOf f bs) (getD locs t 0)) Q

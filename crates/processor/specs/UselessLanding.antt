@@ -102,7 +102,7 @@ lies : (x : Inputs) (code : List ℕ) (is : List (Instr ℕ)) (locs : List ℕ) 
     → placeOf locs (length code - 16) t ≡ p
 lies x code is locs t p (slot b l n s e) = rw (eqb-false t anchor n) e
 lies x code is locs t p (exit e v) = rw (eqb-true t anchor e) (omega (arith, v .ends))
-lies x code is locs t p (first l n e z) = rw (eqb-false t anchor n) (e ∙ sym z)
+lies x code is locs t p (first l n m e z) = rw (eqb-false t anchor n) (e ∙ sym z)
 
 -- An entry of the tables, the k-th, in a page that lands.
 module _ (x : Inputs) (code : List ℕ) (is : List (Instr ℕ)) (locs fields targets : List ℕ) (l : Landing x code is locs fields targets)
@@ -161,16 +161,16 @@ module _ (x : Inputs) (code : List ℕ) (is : List (Instr ℕ)) (locs fields tar
       by : {p : ℕ} → Meant x code is locs aim p → ⊥
       by (slot b g a s e) = omega (arith, g, m)
       by (exit e v) = n e
-      by (first g a e z) = omega (arith, g, m)
+      by (first g a o e z) = omega (arith, g, m)
 
-  -- a slot's location that is not where the slot begins
-  pub wrong-location : (q : ℕ) (b : Block) → SlotAt x aim q b → aim ≢ anchor → getD locs aim 0 ≢ 0 → getD locs aim 0 ≢ q → ⊥
-  wrong-location q b v n z m = by (l .listed k h .meant)
+  -- a slot's location that is not where the slot begins, as one that is left 0
+  pub wrong-location : (q : ℕ) (b : Block) → SlotAt x aim q b → aim ≢ anchor → getD locs aim 0 ≢ q → ⊥
+  wrong-location q b v n m = by (l .listed k h .meant)
     where
       by : {p : ℕ} → Meant x code is locs aim p → ⊥
       by {p} (slot c g a s e) = one-slot x aim q p b c v s (λ o. m (e ∙ sym o))
       by (exit e v) = n e
-      by (first g a e o) = z e
+      by (first g a o e z) = o q b v
 
   -- the exit, which is no epilogue, or not the code's last instructions
   pub exit-adds-504 : aim ≡ anchor → (before : List (Instr ℕ)) → is ≡ before ++ leavingBy 504 → ⊥
@@ -179,7 +179,7 @@ module _ (x : Inputs) (code : List ℕ) (is : List (Instr ℕ)) (locs fields tar
       by : {p : ℕ} → Meant x code is locs aim p → ⊥
       by (slot b g a s q) = a n
       by {p} (exit q v) = epilogue-of-504 code is before p e v
-      by (first g a q z) = a n
+      by (first g a o q z) = a n
 
 -- tables of different lengths
 pub pairs-missing : (x : Inputs) (code : List ℕ) (is : List (Instr ℕ)) (locs fields targets : List ℕ) → length targets ≢ length fields
