@@ -1,7 +1,7 @@
 -- Demand 3: what an accepted page does when it is read and run. Four statements, of the code and the tables that a translation gives:
 -- reading, landing, staying, the stack pointer. They are about the processor of Machine.antt and the instruction reader of crate x86.
--- Proved.antt proves them of everything that `translationOf` accepts; Useless.antt shows that by themselves they shut out a translator
--- that writes nothing and one that leaves its fields unfilled.
+-- Proved.antt proves them of everything that `translationOf` accepts; Useless.antt and the files beside it show what each part of them shuts
+-- out by itself.
 -- Assumes nothing.
 use mathlib.Core.Path.{_≡_}
 use mathlib.Core.Logic.{_≢_}

@@ -62,7 +62,7 @@ inputs n = replicate n (input true 29)
 
 -- that a run comes to x only from j, by computing it
 module _ (code : List ℕ) (x j : ℕ) where
-  abbrev comesBy : ℕ → Outcome → (State → Bool) → Bool
+  abbrev pub comesBy : ℕ → Outcome → (State → Bool) → Bool
   comesBy p (running t) k = (not (eqb (t .pos) x) || eqb p j) && k t
   comesBy p (finished t) k = true
   comesBy p faulted k = true
@@ -70,14 +70,14 @@ module _ (code : List ℕ) (x j : ℕ) where
   comesBy p divided k = true
   comesBy p astray k = true
 
-  abbrev runsBy : List Input → State → Bool
+  abbrev pub runsBy : List Input → State → Bool
   runsBy [] s = true
   runsBy (u ∷ us) s = comesBy (s .pos) (step code s u) (λ t. runsBy us t)
 
   comes : (p q : ℕ) → T (not (eqb q x) || eqb p j) → q ≡ x → p ≡ j
   comes p q h e = or-elim (not (eqb q x)) (eqb p j) h (λ n. absurd (T-not (eqb q x) n (true-T _ (eqb-true q x e)))) (λ y. eqb→eq p j y)
 
-  runs-by : (us : List Input) (s : State) → T (runsBy us s) → EntersFrom code x j us s
+  pub runs-by : (us : List Input) (s : State) → T (runsBy us s) → EntersFrom code x j us s
   unfolding EntersFrom
   runs-by [] s h = tt
   runs-by (u ∷ us) s h = by (step code s u) h (λ t g. runs-by us t g)

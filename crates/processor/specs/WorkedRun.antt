@@ -19,7 +19,7 @@ pageAdding low high =
     ∷ 0xc3
     ∷ 0x48 ∷ 0x81 ∷ 0xc4 ∷ low ∷ high ∷ 0x00 ∷ 0x00 ∷ 0x41 ∷ 0x5f ∷ 0x41 ∷ 0x5e ∷ 0x41 ∷ 0x5d ∷ 0x5b ∷ 0x5d ∷ 0xc3 ∷ []
 
-abbrev clear : Status
+abbrev pub clear : Status
 clear = record { CF = false; ZF = false; SF = false; OF = false }
 
 abbrev pub start : State
