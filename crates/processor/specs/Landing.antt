@@ -220,10 +220,10 @@ record InBlock (program : List ℕ) (n : ℕ) (bs : List Block) (pre : Code) (j 
   divides : kindOf (insnAt program (n + slotsIn ahead) .opc) ≡ Known (MulDivMod Div width Reg)
 
 -- a block with such a jump
-divided : (program : List ℕ) (n : ℕ) (b : Block) → OriginIn program n b → (pre : Code) (j : Jump) (k : ℕ) (post : Code)
+skip-divides : (program : List ℕ) (n : ℕ) (b : Block) → OriginIn program n b → (pre : Code) (j : Jump) (k : ℕ) (post : Code)
     → b .code ≡ pre ++ jump j (near k) ∷ post
     → (w : Width) × (kindOf (insnAt program n .opc) ≡ Known (MulDivMod Div w Reg))
-divided program n b o pre j k post e = by (slot-skipping (o .origin .kind) n (o .origin .insn) (o .origin .value))
+skip-divides program n b o pre j k post e = by (slot-skipping (o .origin .kind) n (o .origin .insn) (o .origin .value))
   where
     code : Code
     code = slotCode (o .origin .kind) n (o .origin .insn) (o .origin .value)
@@ -263,7 +263,7 @@ in-block program n (b ∷ bs) o pre j k post e =
         → ((more : Code) → flat bs ≡ more ++ jump j (near k) ∷ post → InBlock program next bs more j k post)
         → InBlock program n (b ∷ bs) pre j k post
     by (left more p q) ih =
-        let d = divided program n b (o .0) pre j k more p in
+        let d = skip-divides program n b (o .0) pre j k more p in
         record {
           ahead = [];
           block = b;

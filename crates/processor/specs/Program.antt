@@ -137,13 +137,15 @@ module _ (x : Inputs) (given : Given x) where
     taken-kind Call = taken-call (eqb (insnAt (x .program) slot .src) 0) (eqb (insnAt (x .program) slot .src) 1)
     taken-kind Exit = comes Exit 0 (omega arith)
 
-    known-comes : (l : Lookup) → Looks l
-        → Comes (x .program) slot (known (x .ids) (x .addresses) l slot (insnAt (x .program) slot) (readAt (x .program) (slot + 1)))
+    abbrev step : Lookup → Step
+    step l = known (x .ids) (x .addresses) l slot (insnAt (x .program) slot) (readAt (x .program) (slot + 1))
+
+    known-comes : (l : Lookup) → Looks l → Comes (x .program) slot (step l)
     known-comes Unknown e = tt
     known-comes Unimplemented e = tt
     known-comes (Known k) e = taken-kind k e
 
-    registers-comes : (t : Bool) (l : Lookup) → Looks l → Comes (x .program) slot (pick t (known (x .ids) (x .addresses) l slot (insnAt (x .program) slot) (readAt (x .program) (slot + 1))) (stop (Refusal.BadRegister (record { number = slot }))))
+    registers-comes : (t : Bool) (l : Lookup) → Looks l → Comes (x .program) slot (pick t (step l) (stop (Refusal.BadRegister (record { number = slot }))))
     registers-comes true l e = known-comes l e
     registers-comes false l e = tt
 
