@@ -1,5 +1,5 @@
 //! The fixed list of cases: every opcode, register, edge and refusal in turn,
-//! then a random part from a fixed seed.
+//! then a random part from a fixed seed, then the limits once more.
 //!
 //! Each function gives one part; `cases` puts them one behind the other. The
 //! list is the same on every machine.
@@ -7,6 +7,7 @@
 use crate::ebpf;
 use crate::generate::Generator;
 use crate::judge::Judge;
+use crate::limits;
 use crate::slots::{
     plain_case, slot, wide, Opcodes, BAD_SWAPS, CONSTANTS, IDS, IMMS, LAST_REGISTER, OFFS,
 };
@@ -20,7 +21,7 @@ const PAGE: usize = 4_096;
 const PROLOGUE: usize = 34;
 const EPILOGUE: usize = 16;
 
-const EXIT: [u8; 8] = [ebpf::EXIT, 0, 0, 0, 0, 0, 0, 0];
+pub const EXIT: [u8; 8] = [ebpf::EXIT, 0, 0, 0, 0, 0, 0, 0];
 
 pub fn cases() -> Result<Vec<Case>, String> {
     let mut judge = Judge::new();
@@ -43,14 +44,15 @@ pub fn cases() -> Result<Vec<Case>, String> {
     for at in 0..RANDOM_COUNT {
         list.push(generator.case(RANDOM_SEED, at)?);
     }
+    list.extend(limits::cases());
     Ok(list)
 }
 
-fn case_of(program: &[[u8; 8]]) -> Case {
+pub fn case_of(program: &[[u8; 8]]) -> Case {
     plain_case(&program.concat())
 }
 
-/// The lines of document 01's "Worked bytes", each with its name there.
+/// The worked programs, whose bytes `tests/worked.rs` has; each with its name.
 pub fn worked() -> Vec<(&'static str, Case)> {
     let load = |src, off| case_of(&[slot(ebpf::LD_B_REG, 0, src, off, 0)]);
     let call = |imm| case_of(&[slot(ebpf::CALL, 0, 1, 0, imm)]);

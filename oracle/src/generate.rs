@@ -5,14 +5,12 @@
 //! Case number `at` of a seed depends on these two numbers alone.
 
 use crate::ebpf;
-use crate::judge::Judge;
+use crate::judge::{Judge, CODE_MAX, CODE_MIN};
 use crate::program::{self, Fault, Setting, FAULTS};
 use crate::random::Random;
 use crate::slots::{self, Opcodes};
 use crate::stream::{Answer, Case, Translation};
 
-const CODE_MIN: u32 = 4_096;
-const CODE_MAX: u32 = 131_072;
 /// Length of the epilogue.
 const EPILOGUE: i64 = 16;
 /// Jumps of a program that is to be trimmed stay below this slot.

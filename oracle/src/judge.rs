@@ -1,19 +1,20 @@
-//! Runs a case through the Rust and puts document 01's numbers to how it ends.
+//! Runs a case through the Rust and puts a number to how it ends, as
+//! docs/REFUSALS.md numbers them.
 //!
 //! What is translated, and to which bytes, the Rust alone decides. The oracle
-//! adds the few lines that document 01 adds: refusals 2 to 5, which the Rust
-//! does not have, and the names of the Rust's own endings, which are error
-//! texts and panic texts there and numbers here. An ending that has no number
-//! is a failure of the oracle, said in a sentence; it is never guessed at.
+//! adds a few lines: refusals 2 to 5, which the Rust does not have, and the
+//! names of the Rust's own endings, which are error texts and panic texts there
+//! and numbers here. An ending that has no number is a failure of the oracle,
+//! said in a sentence; it is never guessed at.
 
 use crate::observe::{self, debug_number, Panic, Seen, EXIT_ANCHOR, NO_LOCATION};
 use crate::stream::{Answer, Case, Translation};
 use crate::{ebpf, jit, HashMap};
 
-const CODE_MIN: u32 = 4_096;
-const CODE_MAX: u32 = 131_072;
-const PROGRAM_MAX: usize = 16_384;
-const HELPERS_MAX: usize = 256;
+pub const CODE_MIN: u32 = 4_096;
+pub const CODE_MAX: u32 = 131_072;
+pub const PROGRAM_MAX: usize = 16_384;
+pub const HELPERS_MAX: usize = 256;
 const EPILOGUE: usize = 16;
 /// Bytes behind the code buffer that are watched as well.
 const GUARD: usize = 64;
@@ -33,7 +34,7 @@ enum Place {
 use Place::{Error as AnError, Panic as PanicIn};
 
 /// Every way in which the Rust refuses: where, the words it begins with, and
-/// the number that document 01 gives it.
+/// its number in docs/REFUSALS.md.
 const ENDINGS: [(Place, &str, u8); 10] = [
     (AnError, "Executable memory is too small", 1),
     (PanicIn("ebpf.rs"), "Error: cannot reach instruction at index ", 6),
@@ -106,7 +107,7 @@ impl Judge {
     }
 }
 
-/// Refusals 2 to 5, in document 01's order.
+/// Refusals 2 to 5, in the order of docs/REFUSALS.md.
 fn added_refusal(case: &Case) -> Option<u8> {
     let entries = case.slots() as u32 + 1;
     let short = |len: &u32| *len < entries;

@@ -1,12 +1,13 @@
 //! The oracle: rbpf's own JIT, compiled unchanged, put to the project's cases.
 //!
-//! Here stand the two documents, the names they expect at the crate root, and
+//! Here stand rbpf's two files, the names they expect at the crate root, and
 //! the choice of a command. `commands.rs` does what the commands say.
 
 mod commands;
 mod corpus;
 mod generate;
 mod judge;
+mod limits;
 mod observe;
 mod program;
 mod random;
@@ -15,7 +16,7 @@ mod stream;
 #[cfg(test)]
 mod tests;
 
-// The documents: neither formatted nor mended.
+// rbpf's files: neither formatted nor mended.
 #[path = "../../docs/src/ebpf.rs"]
 #[allow(dead_code, clippy::all)]
 #[rustfmt::skip]

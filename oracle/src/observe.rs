@@ -1,5 +1,5 @@
-//! Stand-ins for what the two documents take from the crate around them, made
-//! so that a run can be watched without a change to the documents.
+//! Stand-ins for what rbpf's two files take from the crate around them, made
+//! so that a run can be watched without a change to the files.
 //!
 //! jit.rs keeps its locations, jumps and exit anchor in a private struct, but
 //! the types it keeps them in (`Vec`, `HashMap`, `vec!`) come from the crate

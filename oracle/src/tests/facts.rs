@@ -1,5 +1,5 @@
-//! What is known of the Rust, fact by fact: where it parts from document 01,
-//! and what a definition of it must reproduce.
+//! What is known of the Rust, fact by fact: what one would not expect of it
+//! (part C of docs/DIFFERENCES.md), and what a definition of it must reproduce.
 
 use super::{accepted, bytes, case_of, code_alone, opcodes, refused, slot_code, EPILOGUE, EXIT};
 use crate::ebpf::{self, *};
@@ -7,7 +7,7 @@ use crate::judge::Judge;
 use crate::slots::{plain_case, slot, wide, LAST_REGISTER};
 use crate::stream::{Answer, Case};
 
-// ---- where the Rust parts from document 01 ---------------------------------
+// ---- what one would not expect ---------------------------------------------
 
 #[test]
 fn mul_div_mod_by_register_ignore_imm() {
@@ -89,7 +89,7 @@ fn the_longest_page_has_86081_bytes() {
 }
 
 #[test]
-fn document_001_has_the_reader_and_the_constants() {
+fn ebpf_rs_has_the_reader_and_the_constants() {
     let insn = ebpf::get_insn(&[0xdc, 0xa3, 0x34, 0x12, 0x78, 0x56, 0x34, 0x92], 0);
     let fields = (insn.opc, insn.dst, insn.src, insn.off, insn.imm);
     assert_eq!(fields, (BE, 3, 10, 0x1234, 0x9234_5678u32 as i32));

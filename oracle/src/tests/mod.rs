@@ -1,6 +1,5 @@
-//! Tests of the oracle itself: document 01's worked bytes, the facts known of
-//! the Rust, the order of the refusals, the streams, and the spread of the
-//! random cases.
+//! Tests of the oracle itself: the worked programs, the facts known of the Rust,
+//! the order of the refusals, the streams, and the spread of the random cases.
 
 mod facts;
 mod order;

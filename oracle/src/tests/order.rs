@@ -2,8 +2,10 @@
 
 use super::{accepted, case_of, refused, EXIT};
 use crate::ebpf::{self, BE, CALL, DIV64_REG, JA, LD_DW_IMM, MOV64_REG, TAIL_CALL};
+use crate::judge::Judge;
+use crate::limits;
 use crate::slots::{plain_case, slot};
-use crate::stream::Case;
+use crate::stream::{Answer, Case};
 
 const BAD_REGISTER: [u8; 8] = [MOV64_REG, 11, 0, 0, 0, 0, 0, 0];
 const UNKNOWN: [u8; 8] = [0xff, 0, 0, 0, 0, 0, 0, 0];
@@ -195,4 +197,31 @@ fn what_a_full_page_comes_before_and_after() {
     let mut stub = jump.clone();
     stub.program.push(ebpf::EXIT);
     assert_eq!(refused(&stub), (6, jump.slots() as u32));
+}
+
+#[test]
+fn the_list_has_both_sides_of_each_limit() {
+    let mut judge = Judge::new();
+    let mut counts = [0; 15];
+    for case in limits::cases() {
+        match judge.answer(&case).expect("an answer") {
+            Answer::Accepted(_) => counts[0] += 1,
+            Answer::Refused { number, .. } => counts[number as usize] += 1,
+        }
+    }
+    for (number, least) in
+        [(0, 20), (1, 5), (2, 5), (3, 3), (4, 10), (5, 10), (6, 2), (11, 2), (13, 1), (14, 50)]
+    {
+        assert!(counts[number] >= least, "refusal {number}: {counts:?}");
+    }
+    // 256 helpers, the last of them called; a page too long ahead of a program
+    // too long.
+    let many = |case: &Case| case.helper_ids.len() == 256 && case.helper_addresses.len() == 256;
+    let last = |case: &Case| case.program[4..8] == case.helper_ids[255].to_le_bytes();
+    let called = limits::cases().into_iter().filter(|case| many(case) && last(case));
+    let good = called.filter(|case| matches!(judge.answer(case), Ok(Answer::Accepted(_))));
+    assert!(good.count() > 1);
+    let both = |case: &Case| case.code_len > 131_072 && case.program.len() > 16_384;
+    let both: Vec<Case> = limits::cases().into_iter().filter(both).collect();
+    assert!(both.len() > 1 && both.iter().all(|case| refused(case) == (2, 0)));
 }

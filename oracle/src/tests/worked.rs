@@ -1,4 +1,4 @@
-//! Every line of document 01's "Worked bytes".
+//! The worked programs, and the bytes that each has to give.
 
 use super::{accepted, ask, bytes, case_of, slot_code, EPILOGUE};
 use crate::corpus;
