@@ -3,6 +3,10 @@
  * Link with libndakoleem.a, which `rt staticlib ndakoleem` writes to target/staticlib. The library is x86-64 code, allocates nothing, keeps
  * nothing between calls, calls nothing of the operating system, and can be called by several threads at once, each with its own buffers.
  *
+ *     static struct ndakoleem_memory memory;
+ *     struct ndakoleem_buffers lent = ndakoleem_lend(&memory);
+ *     struct ndakoleem_translation done = ndakoleem_translate_into(program, program_length, true, false, NULL, 0, NULL, 0, &lent);
+ *
  * Mapping the page executable stays with the caller: give the code buffer's first `length` bytes to a mapping, then make that one readable
  * and executable. The code is called as `uint64_t f(uint8_t *mbuff, size_t mbuff_length, uint8_t *packet, size_t packet_length,
  * size_t packet_start_offset, size_t packet_end_offset)`, as rbpf calls it; with use_mbuff false only the packet's pointer is looked at. */
@@ -17,26 +21,28 @@
 extern "C" {
 #endif
 
-/* Sizes. With these any program of up to NDAKOLEEM_PROGRAM_MAX bytes finds room; smaller buffers do for smaller programs. A program of n slots
- * (its length in bytes divided by 8, rounded down) takes at most 42 * n + 65 bytes of code, n + 1 locations and n + 1 jumps. */
+/* Limits, and sizes that are enough. A program of n slots (its length in bytes divided by 8, rounded down) takes at most 42 * n + 65 bytes of
+ * code, n + 1 locations and n + 1 jumps, so smaller buffers do for smaller programs. */
 enum {
-    NDAKOLEEM_PROGRAM_MAX = 16384,  /* bytes: 2,048 slots */
-    NDAKOLEEM_CODE_MIN = 4096,      /* bytes: a shorter code buffer is refused, whatever the program */
-    NDAKOLEEM_CODE_MAX = 131072,    /* bytes: a longer one is refused */
-    NDAKOLEEM_CODE_ENOUGH = 90112,  /* bytes, a multiple of 4,096: no program's code is longer than 86,081 */
-    NDAKOLEEM_TABLE_ENOUGH = 2049,  /* entries: as many as the longest program needs */
-    NDAKOLEEM_HELPERS_MAX = 256,    /* helpers */
-    NDAKOLEEM_SENTENCE_ENOUGH = 200 /* bytes: every sentence of ndakoleem_sentence finds room */
+    NDAKOLEEM_PROGRAM_MAX = 16384,   /* bytes: 2,048 slots */
+    NDAKOLEEM_CODE_MIN = 4096,       /* bytes */
+    NDAKOLEEM_CODE_MAX = 131072,     /* bytes */
+    NDAKOLEEM_CODE_ENOUGH = 90112,   /* bytes, a multiple of 4,096: no program's code is longer than 86,081 */
+    NDAKOLEEM_TABLE_ENOUGH = 2049,   /* entries: as many as the longest program needs */
+    NDAKOLEEM_HELPERS_MAX = 256,     /* helpers */
+    NDAKOLEEM_EXIT_TARGET = 1000001, /* in the table of targets: a jump to the exit */
+    NDAKOLEEM_SENTENCE_ENOUGH = 200  /* bytes: every sentence of ndakoleem_sentence finds room */
 };
 
-/* An answer's number: 0, or why the program is refused. The slot that goes with it is said in brackets; slots count from 0. */
+/* An answer's number: 0, or why the program is refused. The slot that goes with it is said in brackets; slots count from 0.
+ * docs/REFUSALS.md has what to do about each, and which one is given where there are several. */
 enum ndakoleem_number {
     NDAKOLEEM_ACCEPTED = 0,          /* the code is finished                                                                              [0] */
-    NDAKOLEEM_CODE_TOO_SHORT = 1,    /* the code buffer is below 4,096 bytes                                                              [0] */
-    NDAKOLEEM_CODE_TOO_LONG = 2,     /* the code buffer is above 131,072 bytes                                                            [0] */
-    NDAKOLEEM_PROGRAM_TOO_LONG = 3,  /* the program is above 16,384 bytes                                                                 [0] */
+    NDAKOLEEM_CODE_TOO_SHORT = 1,    /* the code buffer is shorter than NDAKOLEEM_CODE_MIN                                                [0] */
+    NDAKOLEEM_CODE_TOO_LONG = 2,     /* the code buffer is longer than NDAKOLEEM_CODE_MAX                                                 [0] */
+    NDAKOLEEM_PROGRAM_TOO_LONG = 3,  /* the program is longer than NDAKOLEEM_PROGRAM_MAX                                                  [0] */
     NDAKOLEEM_TABLE_TOO_SHORT = 4,   /* a table has fewer entries than the program has slots, and one                                     [0] */
-    NDAKOLEEM_BAD_HELPERS = 5,       /* the helper lists differ in length, have more than 256 entries, or hold an id twice                [0] */
+    NDAKOLEEM_BAD_HELPERS = 5,       /* the helper lists differ in length, are longer than NDAKOLEEM_HELPERS_MAX, or hold an id twice     [0] */
     NDAKOLEEM_TORN_SLOT = 6,         /* a slot's eight bytes, or a wide load's second eight, are not all there      [that slot; a load's first] */
     NDAKOLEEM_BAD_REGISTER = 7,      /* a slot names a register above 10                                                          [that slot] */
     NDAKOLEEM_UNKNOWN_OPCODE = 8,    /* a slot's opcode byte is none that is known                                                [that slot] */
@@ -57,6 +63,14 @@ struct ndakoleem_translation {
     size_t jumps;
 };
 
+/* Goes ahead of the name of a helper that is written in C: `static NDAKOLEEM_HELPER uint64_t name(uint64_t r1, ..)`.
+ *
+ * A page calls its helpers with the stack pointer 8 bytes off what the calling convention says, and inside every other local call it is right
+ * (docs/DIFFERENCES.md, A19, as in rbpf). A function that does not know this crashes where it, or whatever it calls, keeps an SSE value on the
+ * stack. With this the function aligns the stack for itself, wherever it is called from. A function that cannot be changed is called from one
+ * that has it. */
+#define NDAKOLEEM_HELPER __attribute__((force_align_arg_pointer))
+
 /* Translates a program. Every argument gets an answer; nothing need be checked beforehand but that each pointer is good for its length (in
  * elements) and that no buffer that is written overlaps another. A pointer may not be null, even where its length is 0.
  *
@@ -67,7 +81,7 @@ struct ndakoleem_translation {
  *   code                 accepted: its first `length` bytes become the code
  *   locations            accepted: entries 0 to n become the position of each slot's code (0 for a wide load's second slot, and for entry n)
  *   fields, targets      accepted: their first `jumps` entries become the position of each jump's four-byte field, and the slot that it goes to
- *                        (1,000,001 for the exit)
+ *                        (NDAKOLEEM_EXIT_TARGET for the exit)
  *
  * Everything behind these is left as it was; a refusal changes nothing at all. */
 struct ndakoleem_translation ndakoleem_translate(
@@ -86,6 +100,57 @@ size_t ndakoleem_sentence(
     const uint8_t *program, size_t program_length,
     uint8_t number, size_t slot,
     char *out, size_t out_length);
+
+/* What is lent to a translation and written by it; ndakoleem_translate explains each. Lengths are in elements. */
+struct ndakoleem_buffers {
+    uint8_t *code;
+    size_t code_length;
+    uint32_t *locations;
+    size_t locations_length;
+    uint32_t *fields;
+    size_t fields_length;
+    uint32_t *targets;
+    size_t targets_length;
+};
+
+/* Memory in which every program finds room, 114,700 bytes: too much for a small stack. */
+struct ndakoleem_memory {
+    uint8_t code[NDAKOLEEM_CODE_ENOUGH];
+    uint32_t locations[NDAKOLEEM_TABLE_ENOUGH];
+    uint32_t fields[NDAKOLEEM_TABLE_ENOUGH];
+    uint32_t targets[NDAKOLEEM_TABLE_ENOUGH];
+};
+
+/* All of that memory. A caller who lends it so has no line to change when a table is added. */
+static inline struct ndakoleem_buffers ndakoleem_lend(struct ndakoleem_memory *memory) {
+    struct ndakoleem_buffers lent;
+    lent.code = memory->code;
+    lent.code_length = NDAKOLEEM_CODE_ENOUGH;
+    lent.locations = memory->locations;
+    lent.locations_length = NDAKOLEEM_TABLE_ENOUGH;
+    lent.fields = memory->fields;
+    lent.fields_length = NDAKOLEEM_TABLE_ENOUGH;
+    lent.targets = memory->targets;
+    lent.targets_length = NDAKOLEEM_TABLE_ENOUGH;
+    return lent;
+}
+
+/* ndakoleem_translate, with the buffers in one struct. The helper lists may be null where their lengths are 0. */
+static inline struct ndakoleem_translation ndakoleem_translate_into(
+    const uint8_t *program, size_t program_length,
+    bool use_mbuff, bool update_data_ptr,
+    const uint32_t *ids, size_t ids_length,
+    const uint64_t *addresses, size_t addresses_length,
+    const struct ndakoleem_buffers *lent) {
+    static const uint32_t no_id = 0;
+    static const uint64_t no_address = 0;
+    return ndakoleem_translate(
+        program, program_length, use_mbuff, update_data_ptr,
+        ids == NULL ? &no_id : ids, ids_length,
+        addresses == NULL ? &no_address : addresses, addresses_length,
+        lent->code, lent->code_length, lent->locations, lent->locations_length,
+        lent->fields, lent->fields_length, lent->targets, lent->targets_length);
+}
 
 #ifdef __cplusplus
 }

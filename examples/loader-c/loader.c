@@ -49,16 +49,14 @@ static struct bytes read_file(const char *name) {
     return read;
 }
 
-/* The helpers that a filter may call. The page enters them with the stack 8 bytes off what C expects, so each aligns it for itself. */
-#define HELPER __attribute__((force_align_arg_pointer)) static uint64_t
-
-/* 1: is the IPv4 address a subscriber's? Here, the addresses whose last byte is a multiple of 7. */
-HELPER is_subscribed(uint64_t address) {
+/* The helpers that a filter may call.
+ * 1: is the IPv4 address a subscriber's? Here, the addresses whose last byte is a multiple of 7. */
+static NDAKOLEEM_HELPER uint64_t is_subscribed(uint64_t address) {
     return (address & 0xff) % 7 == 0;
 }
 
 /* 2: five numbers mixed into 32 bits. */
-HELPER mix(uint64_t a, uint64_t b, uint64_t c, uint64_t d, uint64_t e) {
+static NDAKOLEEM_HELPER uint64_t mix(uint64_t a, uint64_t b, uint64_t c, uint64_t d, uint64_t e) {
     uint64_t sum = (((a * 31 + b) * 31 + c) * 31 + d) * 31 + e;
     return (sum >> 32) ^ (sum & 0xffffffff);
 }
@@ -68,13 +66,12 @@ enum { HELPERS = sizeof helper_ids / sizeof helper_ids[0] };
 
 /* The filter's code in a mapping of its own, executable and no longer writable; a refusal ends the program with its sentence. */
 static page_function load(const char *name, bool raw) {
-    static uint8_t code[NDAKOLEEM_CODE_ENOUGH];
-    static uint32_t locations[NDAKOLEEM_TABLE_ENOUGH], fields[NDAKOLEEM_TABLE_ENOUGH], targets[NDAKOLEEM_TABLE_ENOUGH];
+    static struct ndakoleem_memory memory;
+    struct ndakoleem_buffers lent = ndakoleem_lend(&memory);
     const uint64_t helpers[HELPERS] = {(uint64_t)is_subscribed, (uint64_t)mix};
     struct bytes program = read_file(name);
     struct ndakoleem_translation done =
-        ndakoleem_translate(program.at, program.length, !raw, false, helper_ids, HELPERS, helpers, HELPERS, code, sizeof code, locations,
-                            NDAKOLEEM_TABLE_ENOUGH, fields, NDAKOLEEM_TABLE_ENOUGH, targets, NDAKOLEEM_TABLE_ENOUGH);
+        ndakoleem_translate_into(program.at, program.length, !raw, false, helper_ids, HELPERS, helpers, HELPERS, &lent);
     if (done.number != NDAKOLEEM_ACCEPTED) {
         char sentence[NDAKOLEEM_SENTENCE_ENOUGH];
         size_t length = ndakoleem_sentence(program.at, program.length, done.number, done.slot, sentence, sizeof sentence);
@@ -85,7 +82,7 @@ static page_function load(const char *name, bool raw) {
     free(program.at);
     void *page = mmap(NULL, done.length, PROT_READ | PROT_WRITE, MAP_PRIVATE | MAP_ANONYMOUS, -1, 0);
     if (page == MAP_FAILED) fail(name, "its page cannot be mapped");
-    memcpy(page, code, done.length);
+    memcpy(page, memory.code, done.length);
     if (mprotect(page, done.length, PROT_READ | PROT_EXEC) != 0) fail(name, "its page cannot be made executable");
     return (page_function)page;
 }

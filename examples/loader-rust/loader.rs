@@ -14,10 +14,11 @@ use std::error::Error;
 use std::process::ExitCode;
 use std::ptr;
 
-use ndakoleem::{translate, Flags, Helpers, Tables, CODE_ENOUGH, TABLE_ENOUGH};
+use ndakoleem::{Flags, Helpers, Page};
 
 type Outcome<T> = Result<T, Box<dyn Error>>;
-type Page = unsafe extern "sysv64" fn(*mut Packet, usize, *mut u8, usize, usize, usize) -> u64;
+type PageFunction =
+    unsafe extern "sysv64" fn(*mut Packet, usize, *mut u8, usize, usize, usize) -> u64;
 
 const FILE_HEADER: usize = 24;
 const PACKET_HEADER: usize = 16;
@@ -60,32 +61,12 @@ extern "sysv64" fn mix(a: u64, b: u64, c: u64, d: u64, e: u64) -> u64 {
     (sum >> 32) ^ (sum & 0xffff_ffff)
 }
 
-// The page enters a helper with the stack 8 bytes off what the calling
-// convention says, so each is entered by way of a few instructions that align
-// it.
-macro_rules! aligned {
-    ($entry:literal, $helper:path) => {
-        std::arch::global_asm!(
-            concat!($entry, ":"),
-            "push rbp",
-            "mov rbp, rsp",
-            "and rsp, -16",
-            "call {helper}",
-            "leave",
-            "ret",
-            helper = sym $helper,
-        );
-    };
-}
-aligned!("is_subscribed_aligned", is_subscribed);
-aligned!("mix_aligned", mix);
-extern "C" {
-    fn is_subscribed_aligned();
-    fn mix_aligned();
-}
+// How the page enters them: with the stack aligned.
+ndakoleem::helper_entry!(is_subscribed_entry, is_subscribed);
+ndakoleem::helper_entry!(mix_entry, mix);
 
 /// The code in a mapping of its own, executable and no longer writable.
-fn mapped(code: &[u8]) -> Outcome<Page> {
+fn mapped(code: &[u8]) -> Outcome<PageFunction> {
     unsafe {
         let anywhere = MAP_PRIVATE | MAP_ANONYMOUS;
         let at = mmap(ptr::null_mut(), code.len(), PROT_READ | PROT_WRITE, anywhere, -1, 0);
@@ -96,25 +77,23 @@ fn mapped(code: &[u8]) -> Outcome<Page> {
         if mprotect(at, code.len(), PROT_READ | PROT_EXEC) != 0 {
             return Err("the page cannot be made executable".into());
         }
-        Ok(std::mem::transmute::<*mut u8, Page>(at))
+        Ok(std::mem::transmute::<*mut u8, PageFunction>(at))
     }
 }
 
-fn load(name: &str, raw: bool) -> Outcome<Page> {
+fn load(name: &str, raw: bool) -> Outcome<PageFunction> {
     let program = read(name)?;
-    let mut code = vec![0; CODE_ENOUGH];
-    let [mut locations, mut fields, mut targets] = [0, 1, 2].map(|_| vec![0; TABLE_ENOUGH]);
-    let tables = Tables { locations: &mut locations, fields: &mut fields, targets: &mut targets };
+    let mut page = Page::new();
     let flags = Flags { use_mbuff: !raw, update_data_ptr: false };
-    let addresses = [is_subscribed_aligned as *const () as u64, mix_aligned as *const () as u64];
+    let addresses = [is_subscribed_entry as *const () as u64, mix_entry as *const () as u64];
     let helpers = Helpers { ids: &[1, 2], addresses: &addresses };
-    let done = translate(&program, flags, helpers, &mut code, tables);
-    let done = done.map_err(|refusal| format!("{name} is refused: {refusal}"))?;
-    println!("{name}: {} slots, {} bytes of code", program.len() / 8, done.length);
-    mapped(&code[..done.length])
+    let code = page.translate(&program, flags, helpers);
+    let code = code.map_err(|refusal| format!("{name} is refused: {refusal}"))?;
+    println!("{name}: {} slots, {} bytes of code", program.len() / 8, code.len());
+    mapped(code)
 }
 
-fn keeps(page: Page, raw: bool, data: &[u8]) -> bool {
+fn keeps(page: PageFunction, raw: bool, data: &[u8]) -> bool {
     let mut buffer = data.to_vec();
     buffer.resize(data.len() + RAW_LEAST, 0);
     let start = buffer.as_mut_ptr();
@@ -156,7 +135,7 @@ fn packets(pcap: &[u8]) -> Outcome<Vec<&[u8]>> {
 }
 
 /// A pcap's packets are numbered from 1, as tcpdump and tshark number them.
-fn run(page: Page, raw: bool, name: &str) -> Outcome<()> {
+fn run(page: PageFunction, raw: bool, name: &str) -> Outcome<()> {
     let pcap = read(name)?;
     let packets = packets(&pcap).map_err(|why| format!("{name}: {why}"))?;
     let (mut kept, mut bytes) = (0, 0);

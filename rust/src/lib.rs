@@ -6,37 +6,51 @@
 //! and every set of buffers gets an answer, and a refusal changes no byte.
 //!
 //! ```
-//! use ndakoleem::{translate, Flags, Helpers, Tables};
-//!
-//! let exit = [0x95, 0, 0, 0, 0, 0, 0, 0];
-//! let mut code = [0; 4096];
-//! let (mut locations, mut fields, mut targets) = ([0; 2], [0; 2], [0; 2]);
-//! let tables = Tables { locations: &mut locations, fields: &mut fields, targets: &mut targets };
-//! match translate(&exit, Flags::default(), Helpers::default(), &mut code, tables) {
-//!     Ok(page) => assert_eq!(code[..page.length].len(), 51),
-//!     Err(refusal) => panic!("{refusal}"),
-//! }
+//! # fn main() -> Result<(), ndakoleem::Refusal> {
+//! # let filter = [0x95, 0, 0, 0, 0, 0, 0, 0];
+//! use ndakoleem::{Flags, Helpers, Page};
+//! let mut page = Page::new();
+//! let code = page.translate(&filter, Flags::default(), Helpers::default())?;
+//! # assert_eq!(code.len(), 51);
+//! # Ok(())
+//! # }
 //! ```
+//!
+//! [`Page`] owns buffers in which every program finds room; [`translate`] is
+//! lent any. Helpers that are written in Rust want [`helper_entry!`].
 
 #![no_std]
 
+#[cfg(not(target_arch = "x86_64"))]
+compile_error!(
+    "ndakoleem is a static library of x86-64 code: it is built for an x86_64 target alone"
+);
+
+mod helper;
+mod page;
 pub mod raw;
 mod refusal;
 #[cfg(test)]
 mod tests;
 
+pub use page::Page;
 pub use refusal::{Reason, Refusal};
 
 /// The longest program in bytes: 2,048 slots.
 pub const PROGRAM_MAX: usize = 16_384;
-/// A code buffer has at least so many bytes, and at most `CODE_MAX`.
+/// The shortest code buffer in bytes.
 pub const CODE_MIN: usize = 4_096;
+/// The longest code buffer in bytes.
 pub const CODE_MAX: usize = 131_072;
 /// Bytes in which every program's code finds room: a multiple of 4,096, and
 /// no code is longer than 86,081.
 pub const CODE_ENOUGH: usize = 90_112;
 /// Entries that do for every program in each table.
 pub const TABLE_ENOUGH: usize = PROGRAM_MAX / 8 + 1;
+/// The most helpers.
+pub const HELPERS_MAX: usize = 256;
+/// In the table of targets: a jump to the exit.
+pub const EXIT_TARGET: u32 = 1_000_001;
 
 /// Which registers the filter finds filled.
 #[derive(Clone, Copy, Debug, Default, PartialEq, Eq)]
@@ -49,7 +63,8 @@ pub struct Flags {
 }
 
 /// The helpers that the filter may call: a number and an address for each,
-/// side by side.
+/// side by side, [`HELPERS_MAX`] at most and no number twice. An address is
+/// that of a [`helper_entry!`], or of a function that aligns its stack itself.
 #[derive(Clone, Copy, Debug, Default)]
 pub struct Helpers<'a> {
     pub ids: &'a [u32],
@@ -65,7 +80,7 @@ pub struct Tables<'a> {
     pub locations: &'a mut [u32],
     /// The position of each jump's four-byte field, the prologue's first.
     pub fields: &'a mut [u32],
-    /// The slot that each jump goes to; 1,000,001 for the exit.
+    /// The slot that each jump goes to; [`EXIT_TARGET`] for the exit.
     pub targets: &'a mut [u32],
 }
 

@@ -6,22 +6,39 @@ use core::fmt;
 
 use crate::raw;
 
-/// The refusals, by their numbers; `include/ndakoleem.h` explains each.
+/// The refusals, by their numbers; `docs/REFUSALS.md` says which is given where
+/// there are several, and what to do about each.
 #[derive(Clone, Copy, Debug, PartialEq, Eq)]
+#[non_exhaustive]
 pub enum Reason {
+    /// The code buffer is shorter than [`CODE_MIN`](crate::CODE_MIN).
     CodeTooShort = 1,
+    /// The code buffer is longer than [`CODE_MAX`](crate::CODE_MAX).
     CodeTooLong = 2,
+    /// The program is longer than [`PROGRAM_MAX`](crate::PROGRAM_MAX).
     ProgramTooLong = 3,
+    /// A table has fewer entries than the program has slots, and one.
     TableTooShort = 4,
+    /// The helper lists differ in length, are longer than
+    /// [`HELPERS_MAX`](crate::HELPERS_MAX), or hold an id twice.
     BadHelpers = 5,
+    /// A slot's eight bytes, or a wide load's second eight, are not all there.
     TornSlot = 6,
+    /// A slot names a register above 10.
     BadRegister = 7,
+    /// A slot's opcode byte is none that is known.
     UnknownOpcode = 8,
+    /// A 32- or 64-bit atomic add, or a tail call: known, but not translated.
     Unimplemented = 9,
+    /// A byte swap to big-endian of a width other than 16, 32 or 64 bits.
     BadSwap = 10,
+    /// A call of a helper whose id is not in the list.
     UnknownHelper = 11,
+    /// A call that is neither to a helper nor local: src is 2 to 10.
     BadCall = 12,
+    /// The code, this slot's or the epilogue's, runs past the code buffer.
     NoRoom = 13,
+    /// A jump or a local call goes to no slot of the program.
     BadTarget = 14,
 }
 
@@ -57,8 +74,10 @@ impl Reason {
 /// A refusal: its `Display` is a sentence for the operator.
 #[derive(Clone, Copy, PartialEq, Eq)]
 pub struct Refusal {
+    /// Why.
     pub reason: Reason,
-    /// The slot that is at fault; 0 for the reasons 1 to 5, which have none.
+    /// The slot that is at fault; 0 for the reasons 1 to 5, which have none,
+    /// and the number of slots where the epilogue has no room (13).
     pub slot: usize,
     sentence: [u8; raw::SENTENCE_ENOUGH],
     length: usize,

@@ -1,13 +1,16 @@
 //! That the crate hands on what it is given and gives back what it is told:
-//! document 01's EXIT, each buffer behind it, flags, helpers, and refusals in
-//! words. What the library itself answers is proved, and tested elsewhere.
+//! EXIT's 51 bytes, each buffer behind them, flags, helpers, limits, and
+//! refusals in words. What the library itself answers is proved, and tested elsewhere.
 
 extern crate std;
 use std::format;
 use std::vec;
 use std::vec::Vec;
 
-use crate::{translate, Accepted, Flags, Helpers, Reason, Refusal, Tables};
+use crate::{
+    translate, Accepted, Flags, Helpers, Page, Reason, Refusal, Tables, CODE_ENOUGH, CODE_MAX,
+    CODE_MIN, EXIT_TARGET, HELPERS_MAX, PROGRAM_MAX, TABLE_ENOUGH,
+};
 
 const EXIT: [u8; 8] = [0x95, 0, 0, 0, 0, 0, 0, 0];
 const EXIT_CODE: [u8; 51] = [
@@ -62,7 +65,34 @@ fn exit_alone_and_what_is_behind_it() {
     assert!(lent.code[51..].iter().all(|byte| *byte == 0xab));
     assert_eq!(lent.tables[0], [34, 0, MARK, MARK]);
     assert_eq!(lent.tables[1], [30, MARK, MARK, MARK]);
-    assert_eq!(lent.tables[2], [1_000_001, MARK, MARK, MARK]);
+    assert_eq!(lent.tables[2], [EXIT_TARGET, MARK, MARK, MARK]);
+}
+
+#[test]
+fn a_page_owns_what_it_was_given() -> Result<(), Refusal> {
+    let mut page = Page::new();
+    assert!(page.code().is_empty() && page.locations().is_empty() && page.fields().is_empty());
+    let code = page.translate(&EXIT, Flags::default(), Helpers::default())?;
+    assert_eq!(code, EXIT_CODE);
+    assert_eq!(
+        (page.locations(), page.fields(), page.targets()),
+        (&[34, 0][..], &[30][..], &[EXIT_TARGET][..])
+    );
+    // Refused, it keeps what it had.
+    let refusal = page.translate(&[0], Flags::default(), Helpers::default()).expect_err("refused");
+    assert_eq!(refusal.reason, Reason::TornSlot);
+    assert_eq!((page.code(), page.locations().len()), (&EXIT_CODE[..], 2));
+    Ok(())
+}
+
+#[test]
+fn every_program_finds_room_in_a_page() -> Result<(), Refusal> {
+    let longest = [0x3f, 0x54, 0, 0, 0, 0, 0, 0].repeat(PROGRAM_MAX / 8);
+    let flags = Flags { use_mbuff: true, update_data_ptr: true };
+    let mut page = Page::new();
+    assert_eq!(page.translate(&longest, flags, Helpers::default())?.len(), 86_081);
+    assert_eq!((page.locations().len(), page.targets().len()), (TABLE_ENOUGH, TABLE_ENOUGH));
+    Ok(())
 }
 
 #[test]
@@ -96,11 +126,28 @@ fn buffers_keep_their_own_lengths() {
             lent.translate(&EXIT, Flags::default(), Helpers::default()).expect_err("refused");
         refusal.reason
     };
-    assert_eq!(reason(4_095, [2, 2, 2]), Reason::CodeTooShort);
-    assert_eq!(reason(131_073, [2, 2, 2]), Reason::CodeTooLong);
+    assert_eq!(reason(CODE_MIN - 1, [2, 2, 2]), Reason::CodeTooShort);
+    assert_eq!(reason(CODE_MAX + 1, [2, 2, 2]), Reason::CodeTooLong);
     for short in [[1, 2, 2], [2, 1, 2], [2, 2, 1]] {
         assert_eq!(reason(4_096, short), Reason::TableTooShort);
     }
+}
+
+#[test]
+fn the_limits_are_the_librarys() {
+    let accepts = |code, program: &[u8], helpers: usize| {
+        let ids: Vec<u32> = (0..helpers as u32).collect();
+        let helpers = Helpers { ids: &ids, addresses: &vec![0; helpers] };
+        Lent::new(code, TABLE_ENOUGH).translate(program, Flags::default(), helpers).is_ok()
+    };
+    let longest = EXIT.repeat(PROGRAM_MAX / 8 + 1);
+    for code in [CODE_MIN, CODE_ENOUGH, CODE_MAX] {
+        assert!(accepts(code, &EXIT, 0));
+    }
+    assert!(accepts(CODE_MIN, &longest[..PROGRAM_MAX], 0));
+    assert!(!accepts(CODE_MIN, &longest, 0));
+    assert!(accepts(CODE_MIN, &EXIT, HELPERS_MAX));
+    assert!(!accepts(CODE_MIN, &EXIT, HELPERS_MAX + 1));
 }
 
 #[test]

@@ -1,0 +1,77 @@
+//! Buffers of sufficient size, owned.
+
+use crate::{translate, Accepted, Flags, Helpers, Refusal, Tables, CODE_ENOUGH, TABLE_ENOUGH};
+
+/// A page with its tables: memory in which every program finds room, and what
+/// the last accepted one left there.
+///
+/// It holds 114,700 bytes of buffers and allocates nothing, so it is as large
+/// itself: `static`, boxed, or on a stack that has room for it. The code is to
+/// be copied to a mapping of its own, which is then made executable.
+pub struct Page {
+    code: [u8; CODE_ENOUGH],
+    locations: [u32; TABLE_ENOUGH],
+    fields: [u32; TABLE_ENOUGH],
+    targets: [u32; TABLE_ENOUGH],
+    accepted: Accepted,
+    /// Entries of `locations`.
+    entries: usize,
+}
+
+impl Page {
+    /// A page without code.
+    pub const fn new() -> Page {
+        Page {
+            code: [0; CODE_ENOUGH],
+            locations: [0; TABLE_ENOUGH],
+            fields: [0; TABLE_ENOUGH],
+            targets: [0; TABLE_ENOUGH],
+            accepted: Accepted { length: 0, jumps: 0 },
+            entries: 0,
+        }
+    }
+
+    /// Translates a program and gives its code. Refused, the page is as it
+    /// was: it has the code of the last program that was accepted.
+    pub fn translate(
+        &mut self,
+        program: &[u8],
+        flags: Flags,
+        helpers: Helpers,
+    ) -> Result<&[u8], Refusal> {
+        let tables = Tables {
+            locations: &mut self.locations,
+            fields: &mut self.fields,
+            targets: &mut self.targets,
+        };
+        self.accepted = translate(program, flags, helpers, &mut self.code, tables)?;
+        self.entries = program.len() / 8 + 1;
+        Ok(self.code())
+    }
+
+    /// The code.
+    pub fn code(&self) -> &[u8] {
+        &self.code[..self.accepted.length]
+    }
+
+    /// The position of each slot's code, as [`Tables::locations`] explains.
+    pub fn locations(&self) -> &[u32] {
+        &self.locations[..self.entries]
+    }
+
+    /// The position of each jump's field, the prologue's first.
+    pub fn fields(&self) -> &[u32] {
+        &self.fields[..self.accepted.jumps]
+    }
+
+    /// The slot that each jump goes to, or [`EXIT_TARGET`](crate::EXIT_TARGET).
+    pub fn targets(&self) -> &[u32] {
+        &self.targets[..self.accepted.jumps]
+    }
+}
+
+impl Default for Page {
+    fn default() -> Page {
+        Page::new()
+    }
+}
