@@ -1,0 +1,106 @@
+//! How a page enters its helpers, and that `helper_entry!` makes it right:
+//! filters that call a helper outside local calls, inside one, and inside two.
+
+use std::arch::{asm, global_asm};
+use std::hint::black_box;
+
+use ndakoleem::{Flags, Helpers, Page, CODE_MIN};
+
+// What the C library has for mappings, on x86-64 Linux.
+const PROT_READ_WRITE: i32 = 3;
+const PROT_READ_EXEC: i32 = 5;
+const MAP_PRIVATE_ANONYMOUS: i32 = 0x22;
+extern "C" {
+    fn mmap(
+        at: *mut u8,
+        length: usize,
+        protection: i32,
+        flags: i32,
+        file: i32,
+        offset: i64,
+    ) -> *mut u8;
+    fn mprotect(at: *mut u8, length: usize, protection: i32) -> i32;
+    fn munmap(at: *mut u8, length: usize) -> i32;
+}
+
+// RSP at its own entry: 8 modulo 16 by the calling convention.
+global_asm!(".globl stack_pointer", "stack_pointer:", "mov rax, rsp", "ret");
+extern "sysv64" {
+    fn stack_pointer() -> u64;
+}
+
+/// MOVAPS wants so much.
+#[repr(align(16))]
+struct Kept([u64; 2]);
+
+/// Stores to the stack with MOVAPS, and gives RSP at the entry of a function
+/// that it calls. Anything wrong with the place, the value or the arguments
+/// gives 1, which is no stack pointer.
+extern "sysv64" fn stores(a: u64, b: u64, c: u64, d: u64, e: u64) -> u64 {
+    let mut kept = Kept([a, b]);
+    let at = black_box(&raw mut kept);
+    let inside = unsafe {
+        asm!("movaps xmm7, [{at}]", "movaps [{at}], xmm7", at = in(reg) at, out("xmm7") _);
+        stack_pointer()
+    };
+    let good = at as usize % 16 == 0 && kept.0 == [1, 2] && (c, d, e) == (3, 4, 5);
+    if good {
+        inside
+    } else {
+        1
+    }
+}
+ndakoleem::helper_entry!(stores_entry, stores);
+
+/// As Rust compiles it: this one must not store, since it would crash.
+extern "sysv64" fn plain() -> u64 {
+    // Something is done behind the call, so that it is no jump.
+    black_box(unsafe { stack_pointer() })
+}
+
+/// r1 to r5 are set to 1 to 5, then comes the helper's call, in the innermost
+/// of so many functions.
+fn filter(local_calls: usize) -> Vec<u8> {
+    let exit = [0x95, 0, 0, 0, 0, 0, 0, 0];
+    let mut program = [[0x85, 0x10, 0, 0, 1, 0, 0, 0], exit].concat().repeat(local_calls);
+    program.extend((1..=5).flat_map(|number| [0xb7, number, 0, 0, number, 0, 0, 0]));
+    program.extend([[0x85, 0, 0, 0, 7, 0, 0, 0], exit].concat());
+    program
+}
+
+/// What the helper gives, modulo 16, inside no local call, one and two.
+fn called(helper: *const ()) -> [u64; 3] {
+    [0, 1, 2].map(|local_calls| {
+        let helpers = Helpers { ids: &[7], addresses: &[helper as u64] };
+        let mut page = Page::new();
+        let code =
+            page.translate(&filter(local_calls), Flags::default(), helpers).expect("accepted");
+        unsafe {
+            let none = std::ptr::null_mut();
+            let at = mmap(none, CODE_MIN, PROT_READ_WRITE, MAP_PRIVATE_ANONYMOUS, -1, 0);
+            assert_ne!(at as isize, -1);
+            at.copy_from_nonoverlapping(code.as_ptr(), code.len());
+            assert_eq!(mprotect(at, CODE_MIN, PROT_READ_EXEC), 0);
+            let run: extern "sysv64" fn(usize, usize, *const u8, usize, usize, usize) -> u64 =
+                std::mem::transmute(at);
+            let result = run(0, 0, [0].as_ptr(), 0, 0, 0);
+            munmap(at, CODE_MIN);
+            result % 16
+        }
+    })
+}
+
+#[test]
+fn a_helper_is_entered_8_bytes_off() {
+    assert_eq!(called(stack_pointer as *const ()), [0, 8, 0]);
+}
+
+#[test]
+fn so_is_what_it_calls() {
+    assert_eq!(called(plain as *const ()), [0, 8, 0]);
+}
+
+#[test]
+fn an_entry_aligns_the_stack() {
+    assert_eq!(called(stores_entry as *const ()), [8, 8, 8]);
+}
