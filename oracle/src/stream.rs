@@ -1,5 +1,5 @@
-//! The case and answer streams: one binary format in which any implementation
-//! of the translator can be asked, and its answers compared.
+//! The case and answer streams of docs/CASES.md: one binary format in which any
+//! implementation of the translator can be asked, and its answers compared.
 //!
 //! Little-endian, no header, no padding. Every case and every answer begins
 //! with the length of its rest in four bytes, so a stream is read record by
