@@ -4,9 +4,11 @@
 
 extern crate std;
 use std::format;
+use std::string::String;
 use std::vec;
 use std::vec::Vec;
 
+use crate::raw::SENTENCE_ENOUGH;
 use crate::{
     translate, Accepted, Flags, Helpers, Page, Reason, Refusal, Tables, CODE_ENOUGH, CODE_MAX,
     CODE_MIN, EXIT_TARGET, HELPERS_MAX, PROGRAM_MAX, TABLE_ENOUGH,
@@ -148,6 +150,39 @@ fn the_limits_are_the_librarys() {
     assert!(!accepts(CODE_MIN, &longest, 0));
     assert!(accepts(CODE_MIN, &EXIT, HELPERS_MAX));
     assert!(!accepts(CODE_MIN, &EXIT, HELPERS_MAX + 1));
+}
+
+/// `CodeTooShort` as C spells it: `CODE_TOO_SHORT`.
+fn in_c(reason: Reason) -> String {
+    let mut name = String::new();
+    for letter in format!("{reason:?}").chars() {
+        if letter.is_uppercase() && !name.is_empty() {
+            name.push('_');
+        }
+        name.push(letter.to_ascii_uppercase());
+    }
+    name
+}
+
+#[test]
+fn the_header_has_the_same_numbers() {
+    let header = include_str!("../../include/ndakoleem.h");
+    let says = |name: &str, number: usize| {
+        let line = format!("    NDAKOLEEM_{name} = {number}");
+        let next = header.split_once(&line).map(|(_, rest)| rest.starts_with([',', ' ']));
+        assert_eq!(next, Some(true), "{line}");
+    };
+    says("PROGRAM_MAX", PROGRAM_MAX);
+    says("CODE_MIN", CODE_MIN);
+    says("CODE_MAX", CODE_MAX);
+    says("CODE_ENOUGH", CODE_ENOUGH);
+    says("TABLE_ENOUGH", TABLE_ENOUGH);
+    says("HELPERS_MAX", HELPERS_MAX);
+    says("EXIT_TARGET", EXIT_TARGET as usize);
+    says("SENTENCE_ENOUGH", SENTENCE_ENOUGH);
+    for number in 1..=14 {
+        says(&in_c(Reason::of(number).expect("a reason")), number as usize);
+    }
 }
 
 #[test]
