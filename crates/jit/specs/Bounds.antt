@@ -1,4 +1,4 @@
--- What an accepted program's code and tables can grow to: at most 42 bytes and one listed jump a slot.
+-- What an accepted program's code and tables can grow to: at most `longSlot` bytes and one listed jump a slot.
 -- Assumes nothing.
 use mathlib.Core.Path.{_≡_, _∙_, refl, sym}
 use mathlib.Core.Bool.{Bool, true, false, _||_}
@@ -23,7 +23,7 @@ use Rattle.jit.specs.declared.Refusal.{Refusal}
 use Rattle.jit.specs.declared.Bad.{Bad}
 use Rattle.jit.specs.declared.Bad.the-variants.{Nowhere, At}
 use Rattle.x86.specs.Code.{size, size-append, targetsOf, targets-append, fieldsOf, codeOf, length-bytes, length-fields}
-use Rattle.jit.specs.Limits.{shortestPage, longestPage, longestProgram}
+use Rattle.jit.specs.Limits.{shortestPage, longestPage, mostSlots, longestProgram, longSlot, longestPrologue, epilogueSize, longestFrame, longestCode}
 use Rattle.jit.specs.SlotSize.{slot-most, slot-jumps}
 use Rattle.jit.specs.Frame.{prologue, epilogue, prologue-size, epilogue-size, prologue-targets, epilogue-targets}
 use Rattle.jit.specs.Translation.{Inputs, slotsOf, Block, wideKind, blockOf, Operand, lacks, has, wideValue, operandOf, Step, stop, go, taken, known, goodRegisters, stepRead, stepAt, Walk, refused, done, joined, slotsWide, within, after, rest, flat, firstBad, Outcome, no, yes, whole, locations, exitOf, placeOf, accepted, unlessBad, finish, walkOf, badHelpers, sizesOf, translationOf}
@@ -31,7 +31,7 @@ use Rattle.jit.specs.Translation.{Inputs, slotsOf, Block, wideKind, bloc
 -- A block that a slot gave: its bytes are all there, it is short, and it lists one jump at most.
 pub record Sound (program : List ℕ) (slot : ℕ) (b : Block) : Type 0 where
   pub inside : 8 * slot + 8 * slotsWide (b .wide) ≤ length program
-  pub short : size (b .code) ≤ 42
+  pub short : size (b .code) ≤ longSlot
   pub jumps : length (targetsOf (b .code)) ≤ 1
 
 abbrev pub Fine : List ℕ → ℕ → Step → Type 0
@@ -144,7 +144,7 @@ module _ (program : List ℕ) where
   sounds-inside slot [] h g = omega arith
   sounds-inside slot (b ∷ bs) h g = omega (arith, sounds-inside (slot + slotsWide (b .wide)) bs (h .1) (omega (arith, h .0 .inside)))
 
-  pub sounds-short : (slot : ℕ) (bs : List Block) → Sounds program slot bs → size (flat bs) ≤ 42 * slotsIn bs
+  pub sounds-short : (slot : ℕ) (bs : List Block) → Sounds program slot bs → size (flat bs) ≤ longSlot * slotsIn bs
   sounds-short slot [] h = omega arith
   sounds-short slot (b ∷ bs) h =
       rw (size-append (b .code) (flat bs)) (omega (arith, h .0 .short, sounds-short (slot + slotsWide (b .wide)) bs (h .1), wide-some (b .wide)))
@@ -155,16 +155,16 @@ module _ (program : List ℕ) where
       rw (targets-append (b .code) (flat bs), length-append (targetsOf (b .code)) (targetsOf (flat bs)))
       (omega (arith, h .0 .jumps, sounds-jumps (slot + slotsWide (b .wide)) bs (h .1), wide-some (b .wide)))
 
--- The frame adds 49 and 16 bytes at most, and one jump.
-prologue-most : (f : Flags) → size (prologue f) ≤ 49
+-- The frame adds `longestFrame` bytes at most, and one jump.
+prologue-most : (f : Flags) → size (prologue f) ≤ longestPrologue
 prologue-most f = rw (prologue-size f) (by (f .use_mbuff) (f .update_data_ptr))
   where
-    by : (a b : Bool) → pick a (pick b 49 31) 34 ≤ 49
+    by : (a b : Bool) → pick a (pick b longestPrologue 31) 34 ≤ longestPrologue
     by true true = omega arith
     by true false = omega arith
     by false b = omega arith
 
-pub whole-size : (f : Flags) (bs : List Block) → size (whole f bs) ≡ size (prologue f) + (size (flat bs) + 16)
+pub whole-size : (f : Flags) (bs : List Block) → size (whole f bs) ≡ size (prologue f) + (size (flat bs) + epilogueSize)
 whole-size f bs = rw (size-append (prologue f) (flat bs ++ epilogue), size-append (flat bs) epilogue, epilogue-size)
 
 pub whole-jumps : (f : Flags) (bs : List Block) → length (targetsOf (whole f bs)) ≡ 1 + length (targetsOf (flat bs))
@@ -172,13 +172,13 @@ whole-jumps f bs =
     rw (targets-append (prologue f) (flat bs ++ epilogue), targets-append (flat bs) epilogue, prologue-targets f, epilogue-targets, length-append (targetsOf (flat bs)) [])
     (omega arith)
 
--- What is accepted: code of at most 42 · n + 65 bytes, and so of at most 86,081, which is below 94,273; one field for each target, at
+-- What is accepted: code of at most `longSlot` bytes a slot and `longestFrame`, and so of `longestCode`; one field for each target, at
 -- most n + 1 of them; and all of the code within the page.
 pub record Bounded (x : Inputs) (code fields targets : List ℕ) : Type 0 where
   pub fits : length code ≤ x .page
-  pub slots : slotsOf (x .program) ≤ 2048
-  pub short : length code ≤ 42 * slotsOf (x .program) + 65
-  pub all : length code ≤ 86081
+  pub slots : slotsOf (x .program) ≤ mostSlots
+  pub short : length code ≤ longSlot * slotsOf (x .program) + longestFrame
+  pub all : length code ≤ longestCode
   pub jumps : length fields ≤ slotsOf (x .program) + 1
   pub pairs : length targets ≡ length fields
 
@@ -193,7 +193,7 @@ module _ (x : Inputs) (few : length (x .program) ≤ longestProgram) where
       let place = placeOf (locations f bs) (exitOf f bs) in
       let n : slotsIn bs ≤ slotsOf (x .program) = omega (arith, sounds-inside (x .program) 0 bs h (omega arith)) in
       let l : length (codeOf place (whole f bs)) ≡ size (whole f bs) = length-bytes place 0 (whole f bs) in
-      let s : size (whole f bs) ≤ 42 * slotsOf (x .program) + 65 =
+      let s : size (whole f bs) ≤ longSlot * slotsOf (x .program) + longestFrame =
       omega (arith, whole-size f bs, prologue-most f, sounds-short (x .program) 0 bs h) in
       let p : length (fieldsOf 0 (whole f bs)) ≡ length (targetsOf (whole f bs)) = length-fields 0 (whole f bs) in
       record {

@@ -12,7 +12,7 @@ use Rattle.x86.specs.Registers.{RCX, RDX, RBX, RSP, RBP, RDI, R8, R9, R10, R13,
 use Rattle.x86.specs.Instr.{op, push, pop, alu, aluImm, load, store, jump, jmp, call, ret, ADD, SUB, MOV}
 use Rattle.x86.specs.Code.{near, to, size, size-append, targetsOf}
 use Rattle.x86.specs.Encode.{rex, modrm, memory, bare, short}
-use Rattle.jit.specs.Limits.{anchor}
+use Rattle.jit.specs.Limits.{anchor, longestPrologue, epilogueSize}
 use Rattle.jit.specs.MulDivMod.{Code}
 
 -- what the caller keeps
@@ -55,13 +55,13 @@ epilogue =
 
 -- their lengths
 abbrev pub prologueSize : Flags → ℕ
-prologueSize f = pick (f .use_mbuff) (pick (f .update_data_ptr) 49 31) 34
+prologueSize f = pick (f .use_mbuff) (pick (f .update_data_ptr) longestPrologue 31) 34
 
 pub prologue-size : (f : Flags) → size (prologue f) ≡ prologueSize f
 unfolding saves packetStart packetEnd argument enter prologue rex modrm memory bare short
 prologue-size f = by (f .use_mbuff) (f .update_data_ptr)
   where
-    by : (a b : Bool) → size (prologue (record { use_mbuff = a; update_data_ptr = b })) ≡ pick a (pick b 49 31) 34
+    by : (a b : Bool) → size (prologue (record { use_mbuff = a; update_data_ptr = b })) ≡ pick a (pick b longestPrologue 31) 34
     by true true = refl
     by true false = refl
     by false b = refl
@@ -82,7 +82,7 @@ pub enter-size : size enter ≡ 20
 unfolding enter rex modrm
 enter-size = refl
 
-pub epilogue-size : size epilogue ≡ 16
+pub epilogue-size : size epilogue ≡ epilogueSize
 unfolding epilogue rex
 epilogue-size = refl
 

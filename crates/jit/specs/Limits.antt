@@ -1,6 +1,7 @@
--- The limits of the domain, each named once (document 01).
+-- The limits, each a number here and, for the code, in src/lib.rt, and by its name everywhere else. The code's contracts speak of these
+-- names, so a number in src/lib.rt that is another is refused.
 -- Assumes nothing.
-use Prim.Native.Nat.{ℕ, _*_}
+use Prim.Native.Nat.{ℕ, _+_, _*_}
 
 -- the code buffer, in bytes
 abbrev pub shortestPage : ℕ
@@ -22,3 +23,24 @@ mostHelpers = 256
 -- the target of a jump to the exit: one more than PROG_MAX_INSNS
 abbrev pub anchor : ℕ
 anchor = 1000001
+
+-- What code can grow to, in bytes. A slot: one of most kinds, and one that multiplies, divides or calls (SlotSize.antt proves both).
+abbrev pub shortSlot : ℕ
+shortSlot = 14
+
+abbrev pub longSlot : ℕ
+longSlot = 42
+
+-- the frame: its longest prologue, and its epilogue (Frame.antt)
+abbrev pub longestPrologue : ℕ
+longestPrologue = 49
+
+abbrev pub epilogueSize : ℕ
+epilogueSize = 16
+
+abbrev pub longestFrame : ℕ
+longestFrame = longestPrologue + epilogueSize
+
+-- all of it (Bounds.antt)
+abbrev pub longestCode : ℕ
+longestCode = longSlot * mostSlots + longestFrame

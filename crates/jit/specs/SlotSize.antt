@@ -24,6 +24,7 @@ use Rattle.x86.specs.Lengths.{most, rex-most, plain-most}
 use Rattle.x86.specs.Code.{Dest, size, size-append, targetsOf, targets-append}
 use Rattle.jit.specs.MulDivMod.{Code, when, unlessIs, byZero, guard, operate, fromRax, saved, restored, saves, restores, operated, computed, mulDivModImm, mulDivModReg}
 use Rattle.jit.specs.Slots.{regOf, targetOf, loadImm, swap, helperCall, localCall, slotCode}
+use Rattle.jit.specs.Limits.{shortSlot, longSlot}
 
 -- the sum of what each instruction can get, where it is a number
 abbrev bound : Code → ℕ
@@ -104,74 +105,74 @@ zero-most Mul d = omega (arith, plain-most (alu XOR W32 d d))
 zero-most Div d = omega (arith, plain-most (alu XOR W32 d d))
 zero-most Mod d = omega arith
 
-imm-most : (o : MulOp) (w : Width) (d i : ℕ) → size (mulDivModImm o w d i) ≤ 42
+imm-most : (o : MulOp) (w : Width) (d i : ℕ) → size (mulDivModImm o w d i) ≤ longSlot
 imm-most o w d i =
     chosen (eqb i 0) (byZero o d) (computed o w (op (aluImm MOV W64 RCX i) ∷ []) d) (omega (arith, zero-most o d))
     (omega (arith, computed-most o w (op (aluImm MOV W64 RCX i) ∷ []) d {k = 7} (omega (arith, plain-most (aluImm MOV W64 RCX i)))))
 
-reg-most : (o : MulOp) (slot : ℕ) (w : Width) (s d : ℕ) → size (mulDivModReg o slot w s d) ≤ 42
+reg-most : (o : MulOp) (slot : ℕ) (w : Width) (s d : ℕ) → size (mulDivModReg o slot w s d) ≤ longSlot
 reg-most o slot w s d =
     both (guard o slot w s d) (computed o w (op (alu MOV W64 s RCX) ∷ []) d) (guard-most o slot w s d)
     (computed-most o w (op (alu MOV W64 s RCX) ∷ []) d {k = 3} (omega (arith, plain-most (alu MOV W64 s RCX))))
 
-swap-most : (d bits : ℕ) → size (swap d bits) ≤ 14
+swap-most : (d bits : ℕ) → size (swap d bits) ≤ shortSlot
 swap-most d bits =
     chosen (eqb bits 16) (op (rol16 d 8) ∷ op (aluImm AND W32 d 0xffff) ∷ []) (pick (eqb bits 32) (op (bswap W32 d) ∷ []) (op (bswap W64 d) ∷ []))
     (omega (arith, plain-most (rol16 d 8), plain-most (aluImm AND W32 d 0xffff)))
     (chosen (eqb bits 32) (op (bswap W32 d) ∷ []) (op (bswap W64 d) ∷ []) (omega (arith, plain-most (bswap W32 d))) (omega (arith, plain-most (bswap W64 d))))
 
-call-most : (t : Bool) (value target : ℕ) → size (pick t (helperCall value) (localCall target)) ≤ 42
+call-most : (t : Bool) (value target : ℕ) → size (pick t (helperCall value) (localCall target)) ≤ longSlot
 unfolding rex
 call-most t value target = chosen t (helperCall value) (localCall target) (omega (arith, load-most RAX value)) (omega arith)
 
 -- a division and a call are the long ones
 abbrev pub mostOf : Kind → ℕ
-mostOf (LdAbs z) = 14
-mostOf (LdInd z) = 14
-mostOf LdDwImm = 14
-mostOf (LdReg z) = 14
-mostOf (StImm z) = 14
-mostOf (StReg z) = 14
-mostOf (Alu o w s) = 14
-mostOf (Shift o w s) = 14
-mostOf (Neg w) = 14
-mostOf (MulDivMod o w s) = 42
-mostOf (Mov w s) = 14
-mostOf Le = 14
-mostOf Be = 14
-mostOf Ja = 14
-mostOf (Jump c w s) = 14
-mostOf Call = 42
-mostOf Exit = 14
+mostOf (LdAbs z) = shortSlot
+mostOf (LdInd z) = shortSlot
+mostOf LdDwImm = shortSlot
+mostOf (LdReg z) = shortSlot
+mostOf (StImm z) = shortSlot
+mostOf (StReg z) = shortSlot
+mostOf (Alu o w s) = shortSlot
+mostOf (Shift o w s) = shortSlot
+mostOf (Neg w) = shortSlot
+mostOf (MulDivMod o w s) = longSlot
+mostOf (Mov w s) = shortSlot
+mostOf Le = shortSlot
+mostOf Be = shortSlot
+mostOf Ja = shortSlot
+mostOf (Jump c w s) = shortSlot
+mostOf Call = longSlot
+mostOf Exit = shortSlot
 
 pub slot-within : (k : Kind) (slot : ℕ) (i : Insn) (value : ℕ) → size (slotCode k slot i value) ≤ mostOf k
-slot-within (LdAbs z) slot i value = listing 14 (slotCode (LdAbs z) slot i value) tt
-slot-within (LdInd z) slot i value = listing 14 (slotCode (LdInd z) slot i value) tt
+slot-within (LdAbs z) slot i value = listing shortSlot (slotCode (LdAbs z) slot i value) tt
+slot-within (LdInd z) slot i value = listing shortSlot (slotCode (LdInd z) slot i value) tt
 slot-within LdDwImm slot i value = omega (arith, load-most (regOf (i .dst)) value)
-slot-within (LdReg z) slot i value = listing 14 (slotCode (LdReg z) slot i value) tt
-slot-within (StImm z) slot i value = listing 14 (slotCode (StImm z) slot i value) tt
-slot-within (StReg z) slot i value = listing 14 (slotCode (StReg z) slot i value) tt
-slot-within (Alu o w Imm) slot i value = listing 14 (slotCode (Alu o w Imm) slot i value) tt
-slot-within (Alu o w Reg) slot i value = listing 14 (slotCode (Alu o w Reg) slot i value) tt
-slot-within (Shift o w Imm) slot i value = listing 14 (slotCode (Shift o w Imm) slot i value) tt
-slot-within (Shift o w Reg) slot i value = listing 14 (slotCode (Shift o w Reg) slot i value) tt
-slot-within (Neg w) slot i value = listing 14 (slotCode (Neg w) slot i value) tt
+slot-within (LdReg z) slot i value = listing shortSlot (slotCode (LdReg z) slot i value) tt
+slot-within (StImm z) slot i value = listing shortSlot (slotCode (StImm z) slot i value) tt
+slot-within (StReg z) slot i value = listing shortSlot (slotCode (StReg z) slot i value) tt
+slot-within (Alu o w Imm) slot i value = listing shortSlot (slotCode (Alu o w Imm) slot i value) tt
+slot-within (Alu o w Reg) slot i value = listing shortSlot (slotCode (Alu o w Reg) slot i value) tt
+slot-within (Shift o w Imm) slot i value = listing shortSlot (slotCode (Shift o w Imm) slot i value) tt
+slot-within (Shift o w Reg) slot i value = listing shortSlot (slotCode (Shift o w Reg) slot i value) tt
+slot-within (Neg w) slot i value = listing shortSlot (slotCode (Neg w) slot i value) tt
 slot-within (MulDivMod o w Imm) slot i value = imm-most o w (regOf (i .dst)) (i .imm)
 slot-within (MulDivMod o w Reg) slot i value = reg-most o slot w (regOf (i .src)) (regOf (i .dst))
-slot-within (Mov w Imm) slot i value = listing 14 (slotCode (Mov w Imm) slot i value) tt
-slot-within (Mov w Reg) slot i value = listing 14 (slotCode (Mov w Reg) slot i value) tt
-slot-within Le slot i value = listing 14 (slotCode Le slot i value) tt
+slot-within (Mov w Imm) slot i value = listing shortSlot (slotCode (Mov w Imm) slot i value) tt
+slot-within (Mov w Reg) slot i value = listing shortSlot (slotCode (Mov w Reg) slot i value) tt
+slot-within Le slot i value = listing shortSlot (slotCode Le slot i value) tt
 slot-within Be slot i value = swap-most (regOf (i .dst)) (i .imm)
-slot-within Ja slot i value = listing 14 (slotCode Ja slot i value) tt
-slot-within (Jump c w Imm) slot i value = listing 14 (slotCode (Jump c w Imm) slot i value) tt
-slot-within (Jump c w Reg) slot i value = listing 14 (slotCode (Jump c w Reg) slot i value) tt
+slot-within Ja slot i value = listing shortSlot (slotCode Ja slot i value) tt
+slot-within (Jump c w Imm) slot i value = listing shortSlot (slotCode (Jump c w Imm) slot i value) tt
+slot-within (Jump c w Reg) slot i value = listing shortSlot (slotCode (Jump c w Reg) slot i value) tt
 slot-within Call slot i value = call-most (eqb (i .src) 0) value (targetOf slot (i .imm))
-slot-within Exit slot i value = listing 14 (slotCode Exit slot i value) tt
+slot-within Exit slot i value = listing shortSlot (slotCode Exit slot i value) tt
 
-pub slot-most : (k : Kind) (slot : ℕ) (i : Insn) (value : ℕ) → size (slotCode k slot i value) ≤ 42
+pub slot-most : (k : Kind) (slot : ℕ) (i : Insn) (value : ℕ) → size (slotCode k slot i value) ≤ longSlot
 slot-most k slot i value = le-trans (slot-within k slot i value) (by k)
   where
-    by : (k : Kind) → mostOf k ≤ 42
+    by : (k : Kind) → mostOf k ≤ longSlot
     by (LdAbs z) = omega arith
     by (LdInd z) = omega arith
     by LdDwImm = omega arith

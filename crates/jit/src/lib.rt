@@ -1,6 +1,26 @@
 // What the translator is asked and what it answers: the flags, and every reason to refuse. What it has to give is in specs/.
 use base::Slot;
 
+// The limits, as specs/Limits.antt has them.
+// The code buffer, in bytes.
+pub const SHORTEST_PAGE: usize = 4096;
+
+pub const LONGEST_PAGE: usize = 131072;
+// The program, in slots and in bytes.
+pub const MOST_SLOTS: usize = 2048;
+
+pub const LONGEST_PROGRAM: usize = 8 * MOST_SLOTS;
+
+pub const MOST_HELPERS: usize = 256;
+// The target of a jump to the exit: TARGET_PC_EXIT of the Rust.
+pub const ANCHOR: u32 = 1000001;
+// The most code that a slot can have: one of most kinds, and one that multiplies, divides or calls.
+pub const SHORT_SLOT: usize = 14;
+
+pub const LONG_SLOT: usize = 42;
+
+pub const EPILOGUE_SIZE: usize = 16;
+
 // `use_mbuff` and `update_data_ptr` of the Rust: which of the three prologues is written.
 pub struct Flags {
     pub use_mbuff: bool,
@@ -9,14 +29,14 @@ pub struct Flags {
 
 // Why a program is not translated, and at which slot. The number of each is in specs/Refusals.antt.
 pub enum Refusal {
-    // The code buffer is below 4,096 bytes, or above 131,072.
+    // The code buffer is below SHORTEST_PAGE bytes, or above LONGEST_PAGE.
     PageTooShort,
     PageTooLong,
-    // The program is above 16,384 bytes.
+    // The program is above LONGEST_PROGRAM bytes.
     ProgramTooLong,
     // A table has fewer entries than the program has slots, and one.
     TableTooShort,
-    // The helper lists differ in length, exceed 256, or hold an id twice.
+    // The helper lists differ in length, exceed MOST_HELPERS, or hold an id twice.
     BadHelpers,
     // The slot's eight bytes, or a wide load's second eight, are not all there.
     Torn(Slot),

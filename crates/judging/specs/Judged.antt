@@ -20,6 +20,7 @@ use Rattle.measuring.specs.declared.measure.Measured.{Measured}
 use Rattle.measuring.specs.declared.measure.Measured.the-variants.{Refused, Done}
 use Rattle.judging.specs.declared.verdict.Verdict.{Verdict}
 use Rattle.judging.specs.declared.verdict.Verdict.the-variants.{Good, Not}
+use Rattle.jit.specs.Limits.{epilogueSize}
 
 abbrev pub Judges : (n page start : ℕ) → Walk → Verdict → Type 0
 Judges n page start w Good = Acceptable n page start w
@@ -40,7 +41,7 @@ module _ (n page start : ℕ) where
   refuses (refused s) e = λ g h. cc
   refuses (done bs) e = λ g h. cc
 
-  pub no-room : (w : Walk) {e j : ℕ} {b : Bad} → Done e j b ≡ measuredIs n start w → page < e + 16 → Judges n page start w (Not (Refusal.NoRoom (at n)))
+  pub no-room : (w : Walk) {e j : ℕ} {b : Bad} → Done e j b ≡ measuredIs n start w → page < e + epilogueSize → Judges n page start w (Not (Refusal.NoRoom (at n)))
   no-room (refused s) q h = λ g p. cc
   no-room (done bs) {e} q h =
       λ g p.
@@ -48,7 +49,7 @@ module _ (n page start : ℕ) where
       let long : page < size (whole g bs) = omega (arith, whole-size g bs, d, p) in
       rw (lt-leb _ _ long)
 
-  pub bad-jump : (w : Walk) {e j : ℕ} {b : Bad} {s : Slot} → Done e j b ≡ measuredIs n start w → b ≡ At s → e + 16 ≤ page
+  pub bad-jump : (w : Walk) {e j : ℕ} {b : Bad} {s : Slot} → Done e j b ≡ measuredIs n start w → b ≡ At s → e + epilogueSize ≤ page
       → Judges n page start w (Not (Refusal.BadTarget s))
   bad-jump (refused r) q f h = λ g p. cc
   bad-jump (done bs) {e} {b = b} q f h =
@@ -58,7 +59,7 @@ module _ (n page start : ℕ) where
       let fits : size (whole g bs) ≤ page = omega (arith, whole-size g bs, d, p) in
       rw (le-leb _ _ fits, ← x, f)
 
-  pub accepted : (w : Walk) {e j : ℕ} {b : Bad} → Done e j b ≡ measuredIs n start w → b ≡ Nowhere → e + 16 ≤ page → Judges n page start w Good
+  pub accepted : (w : Walk) {e j : ℕ} {b : Bad} → Done e j b ≡ measuredIs n start w → b ≡ Nowhere → e + epilogueSize ≤ page → Judges n page start w Good
   accepted (refused r) q f h = let z : _≡_ {A = ℕ} 0 1 = cc in absurd (omega arith)
   accepted (done bs) {e} {b = b} q f h =
       let d : e ≡ start + size (flat bs) = ap endOf q in

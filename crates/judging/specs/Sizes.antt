@@ -48,7 +48,7 @@ sized prog page locations fields targets ids addresses =
 abbrev pub Fine : (prog page locations fields targets : ℕ) → (ids : List ℕ) → (addresses : ℕ) → Verdict → Type 0
 Fine prog page locations fields targets ids addresses (Not r) = Unit {0}
 Fine prog page locations fields targets ids addresses Good =
-    (4096 ≤ page) × ((page ≤ 131072) × ((prog ≤ 16384) × ((prog / 8 < locations) × ((prog / 8 < fields) × ((prog / 8 < targets) × (length ids ≡ addresses))))))
+    (shortestPage ≤ page) × ((page ≤ longestPage) × ((prog ≤ longestProgram) × ((prog / 8 < locations) × ((prog / 8 < fields) × ((prog / 8 < targets) × (length ids ≡ addresses))))))
 
 pub record Sizes (prog page locations fields targets : ℕ) (ids : List ℕ) (addresses : ℕ) (r : Verdict) : Type 0 where
   pub answer : r ≡ sized prog page locations fields targets ids addresses

@@ -4,6 +4,7 @@ ghost use Prim.Native.Nat.{suc, _/_, _≤_};
 ghost use lib.ListN.{length};
 ghost use Rattle.jit.specs.Translation.{rest};
 ghost use Rattle.judging.specs.Judged.{Judges};
+ghost use Rattle.jit.specs.Limits.{longestProgram, longestPage};
 use crate::verdict::Verdict;
 use base::Slot;
 use jit::Bad;
@@ -14,7 +15,7 @@ use measuring::measure::Measured;
 
 // `start` is where the first slot's code begins.
 pub fn judge(prog: &[u8], ids: &[u32], addresses: &[u64], page: usize, start: usize) -> Verdict
-    requires { ⌜ (length (now prog) ≤ 16384) × ((page ≤ 131072) × ((start ≤ page) × (length (now ids) ≡ length (now addresses)))) ⌝ }
+    requires { ⌜ (length (now prog) ≤ longestProgram) × ((page ≤ longestPage) × ((start ≤ page) × (length (now ids) ≡ length (now addresses)))) ⌝ }
     ensures { λ r. ⌜ Judges (length (now (prog .entry)) / 8) page start (rest (suc (length (now (prog .entry)) / 8)) (now (prog .entry)) (now (ids .entry)) (now (addresses .entry)) page 0 start) r ⌝ }
 {
     if fits::fits(prog, ids, addresses, page, start) {
@@ -23,7 +24,7 @@ pub fn judge(prog: &[u8], ids: &[u32], addresses: &[u64], page: usize, start: us
     match measure::measure(prog, ids, addresses, page, start) {
         Measured::Refused(refusal) => Verdict::Not(refusal),
         Measured::Done { end, bad, .. } => {
-            if page < end + 16 {
+            if page < end + jit::EPILOGUE_SIZE {
                 return Verdict::Not(Refusal::NoRoom(Slot {
                     number: prog.len() / 8,
                 }));

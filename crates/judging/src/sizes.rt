@@ -47,13 +47,13 @@ pub fn sizes(
 ) -> Verdict
     ensures { λ r. ⌜ Sizes prog page locations fields targets (now (ids .entry)) addresses r ⌝ }
 {
-    if page < 4096 {
+    if page < jit::SHORTEST_PAGE {
         return Verdict::Not(Refusal::PageTooShort);
     }
-    if 131072 < page {
+    if jit::LONGEST_PAGE < page {
         return Verdict::Not(Refusal::PageTooLong);
     }
-    if 16384 < prog {
+    if jit::LONGEST_PROGRAM < prog {
         return Verdict::Not(Refusal::ProgramTooLong);
     }
     let n = prog / 8;
@@ -69,7 +69,7 @@ pub fn sizes(
     if ids.len() != addresses {
         return Verdict::Not(Refusal::BadHelpers);
     }
-    if 256 < ids.len() {
+    if jit::MOST_HELPERS < ids.len() {
         return Verdict::Not(Refusal::BadHelpers);
     }
     if is_twice(ids) {

@@ -37,6 +37,7 @@ use Rattle.walk.specs.Acceptable.{Acceptable}
 use Rattle.walk.specs.Sofar.{Sofar, begins, goes-on, ends, bad-on}
 use Rattle.measuring.specs.declared.fits.Glance.{Glance}
 use Rattle.measuring.specs.declared.fits.Glance.the-variants.{Doubtful, Narrow, Long, Wide}
+use Rattle.jit.specs.Limits.{shortSlot, longSlot, epilogueSize}
 
 -- the tests
 abbrev pub isAddress : Helper → Bool
@@ -64,9 +65,9 @@ pub record Goes (program ids addresses : List ℕ) (n slot : ℕ) (w : Bool) (mo
 
 abbrev pub Sees : (program ids addresses : List ℕ) → (n slot : ℕ) → Glance → Type 0
 Sees program ids addresses n slot Doubtful = Unit {0}
-Sees program ids addresses n slot Narrow = Goes program ids addresses n slot false 14
-Sees program ids addresses n slot Long = Goes program ids addresses n slot false 42
-Sees program ids addresses n slot Wide = Goes program ids addresses n slot true 14
+Sees program ids addresses n slot Narrow = Goes program ids addresses n slot false shortSlot
+Sees program ids addresses n slot Long = Goes program ids addresses n slot false longSlot
+Sees program ids addresses n slot Wide = Goes program ids addresses n slot true shortSlot
 
 abbrev pub Sure : (n page start : ℕ) → Walk → Bool → Type 0
 Sure n page start w true = Acceptable n page start w
@@ -122,7 +123,7 @@ module _ {program : List ℕ} (ids addresses : List ℕ) {n slot : ℕ} (s : See
 
   -- Most kinds take nothing from elsewhere, and list no jump, or one to the next slot.
   plain-kind : (k : Kind) → kindOf (i .opc) ≡ Known k → ¬ (numberOf (Known k) ≡ 4) → ¬ (numberOf (Known k) ≡ 11) → ¬ (numberOf (Known k) ≡ 14) → ¬ (numberOf (Known k) ≡ 15)
-      → ¬ (numberOf (Known k) ≡ 16) → ¬ (numberOf (Known k) ≡ 17) → Goes program ids addresses n slot false 14
+      → ¬ (numberOf (Known k) ≡ 16) → ¬ (numberOf (Known k) ≡ 17) → Goes program ids addresses n slot false shortSlot
   plain-kind (LdAbs z) e a h b c d f = goes (LdAbs z) 0 e refl refl
   plain-kind (LdInd z) e a h b c d f = goes (LdInd z) 0 e refl refl
   plain-kind LdDwImm e a h b c d f = absurd (a refl)
@@ -142,13 +143,13 @@ module _ {program : List ℕ} (ids addresses : List ℕ) {n slot : ℕ} (s : See
   plain-kind Exit e a h b c d f = goes Exit 0 e refl refl
 
   pub seen-plain : (x : ℕ) → x ≡ getD numbers (i .opc) 0 → ¬ (x ≡ 0) → ¬ (x ≡ 1) → ¬ (x ≡ 4) → ¬ (x ≡ 11) → ¬ (x ≡ 14) → ¬ (x ≡ 15) → ¬ (x ≡ 16)
-      → ¬ (x ≡ 17) → Goes program ids addresses n slot false 14
+      → ¬ (x ≡ 17) → Goes program ids addresses n slot false shortSlot
   seen-plain x e u v a h b c d f = by (kindOf (i .opc)) refl
     where
       is : (l : Lookup) → kindOf (i .opc) ≡ l → x ≡ numberOf l
       is l q = e ∙ number-at (i .opc) (in-table (i .opc) e u) ∙ ap numberOf q
 
-      by : (l : Lookup) → kindOf (i .opc) ≡ l → Goes program ids addresses n slot false 14
+      by : (l : Lookup) → kindOf (i .opc) ≡ l → Goes program ids addresses n slot false shortSlot
       by Unknown q = absurd (u (is Unknown q))
       by Unimplemented q = absurd (v (is Unimplemented q))
       by (Known k) q =
@@ -156,17 +157,17 @@ module _ {program : List ℕ} (ids addresses : List ℕ) {n slot : ℕ} (s : See
           plain-kind k q (λ z. a (same ∙ z)) (λ z. h (same ∙ z)) (λ z. b (same ∙ z)) (λ z. c (same ∙ z)) (λ z. d (same ∙ z)) (λ z. f (same ∙ z))
 
   -- multiplication and division list no jump, or one to the next slot
-  divides : (o : MulOp) (w : Width) (x : Source) → kindOf (i .opc) ≡ Known (MulDivMod o w x) → Goes program ids addresses n slot false 42
+  divides : (o : MulOp) (w : Width) (x : Source) → kindOf (i .opc) ≡ Known (MulDivMod o w x) → Goes program ids addresses n slot false longSlot
   divides o w Imm e = goes-to (MulDivMod o w Imm) 0 e refl (imm-lists o w slot i) (omega arith)
   divides Mul w Reg e = goes-to (MulDivMod Mul w Reg) 0 e refl (mul-lists w slot i) (omega arith)
   divides Div w Reg e = goes-to (MulDivMod Div w Reg) 0 e refl (div-lists w slot i) (omega (arith, s .below))
   divides Mod w Reg e = goes-to (MulDivMod Mod w Reg) 0 e refl (mod-lists w slot i) (omega (arith, s .below))
 
-  pub seen-divide : 11 ≡ getD numbers (i .opc) 0 → Goes program ids addresses n slot false 42
+  pub seen-divide : 11 ≡ getD numbers (i .opc) 0 → Goes program ids addresses n slot false longSlot
   seen-divide e = divides (mulOf (i .opc)) (widthOf (i .opc)) (sourceOf (i .opc)) (kind-is 11 (λ z. omega (arith, z)) e)
 
   -- a wide load's second half is there
-  pub seen-wide : 4 ≡ getD numbers (i .opc) 0 → slot + 1 < n → Goes program ids addresses n slot true 14
+  pub seen-wide : 4 ≡ getD numbers (i .opc) 0 → slot + 1 < n → Goes program ids addresses n slot true shortSlot
   seen-wide e h =
       goes LdDwImm (i .imm + 2 ^ 32 * insnAt program (slot + 1) .imm) (kind-is 4 (λ z. omega (arith, z)) e) (rw (read-there program (slot + 1) (omega (arith, s .all, h)))) refl
 
@@ -208,23 +209,23 @@ module _ {program : List ℕ} (ids addresses : List ℕ) {n slot : ℕ} (s : See
           eqb-no : eqb (i .src) 0 ≡ false → ¬ (i .src ≡ 0)
           eqb-no f z = let q : true ≡ false = sym (eq-eqb _ _ z) ∙ f in let w : _≡_ {A = ℕ} 0 1 = cc in absurd (omega arith)
 
--- at the head of the loop: 14 bytes are kept for each slot that is left, and `spare` is what is free beyond them
+-- at the head of the loop: `shortSlot` bytes are kept for each slot that is left, and `spare` is what is free beyond them
 pub record Glancing (program ids addresses kinds : List ℕ) (page start n slot spare : ℕ) : Type 0 where
   pub bs : List Block
   pub place : ℕ
   pub sofar : Sofar program ids addresses page start (rest (suc (length program / 8)) program ids addresses page 0 start) bs slot place
-  pub room : place + spare + 14 * n + 16 ≤ page + 14 * slot
+  pub room : place + spare + shortSlot * n + epilogueSize ≤ page + shortSlot * slot
   pub good : firstBad n 0 bs ≡ Nowhere
   pub table : kinds ≡ numbers
 
-pub glancing-begins : (program ids addresses kinds : List ℕ) (page start n spare : ℕ) → start + spare + 14 * n + 16 ≤ page → kinds ≡ numbers
+pub glancing-begins : (program ids addresses kinds : List ℕ) (page start n spare : ℕ) → start + spare + shortSlot * n + epilogueSize ≤ page → kinds ≡ numbers
     → Glancing program ids addresses kinds page start n 0 spare
 glancing-begins program ids addresses kinds page start n spare h e =
     record { bs = []; place = start; sofar = begins program ids addresses page start (omega (arith, h)); room = omega (arith, h); good = refl; table = e }
 
 module _ {program ids addresses kinds : List ℕ} {page start n slot spare : ℕ} (m : Glancing program ids addresses kinds page start n slot spare) where
-  -- what a slot has beyond 14 bytes comes from what is spare
-  pub glancing-on : (w : Bool) {most left : ℕ} → slot < n → 8 * n ≤ length program → left + most ≤ spare + 14 → Goes program ids addresses n slot w most
+  -- what a slot has beyond `shortSlot` bytes comes from what is spare
+  pub glancing-on : (w : Bool) {most left : ℕ} → slot < n → 8 * n ≤ length program → left + most ≤ spare + shortSlot → Goes program ids addresses n slot w most
       → Glancing program ids addresses kinds page start n (slot + slotsWide w) left
   glancing-on w h all fit g =
       let b = g .block in

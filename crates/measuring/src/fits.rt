@@ -8,6 +8,7 @@ ghost use Rattle.ebpf.specs.Kinds.{numbers};
 ghost use Rattle.jit.specs.Slots.{targetOf};
 ghost use Rattle.jit.specs.Translation.{helperOf, rest};
 ghost use Rattle.measuring.specs.Fits.{isAddress, goodCall, narrowIf, longIf, Sees, Sure};
+ghost use Rattle.jit.specs.Limits.{longestProgram, longestPage};
 use base::Slot;
 use ebpf::insn;
 use ebpf::kind;
@@ -15,7 +16,7 @@ use jit::Helper;
 use recording::emission;
 use walk::step;
 
-// What a look at a slot finds: a doubt, or a slot that is translated: to 14 bytes at most, to 42 (division and calls), or with the next
+// What a look at a slot finds: a doubt, or a slot that is translated: to SHORT_SLOT bytes at most, to LONG_SLOT (division and calls), or with the next
 // slot as its second half.
 pub enum Glance {
     Doubtful,
@@ -125,14 +126,17 @@ fn look_at(
     }
 }
 
-// 14 bytes are kept for each slot and 16 for the epilogue; what a long slot has beyond 14 is taken from what the page has beyond these.
+// What a long slot can have beyond a short one.
+const MORE: usize = jit::LONG_SLOT - jit::SHORT_SLOT;
+
+// SHORT_SLOT bytes are kept for each slot, and the epilogue's; what a long slot has beyond them is taken from what the page has beyond these.
 pub fn fits(prog: &[u8], ids: &[u32], addresses: &[u64], page: usize, start: usize) -> bool
-    requires { ⌜ (length (now prog) ≤ 16384) × ((page ≤ 131072) × ((start ≤ page) × (length (now ids) ≡ length (now addresses)))) ⌝ }
+    requires { ⌜ (length (now prog) ≤ longestProgram) × ((page ≤ longestPage) × ((start ≤ page) × (length (now ids) ≡ length (now addresses)))) ⌝ }
     ensures { λ r. ⌜ Sure (length (now (prog .entry)) / 8) page start (rest (suc (length (now (prog .entry)) / 8)) (now (prog .entry)) (now (ids .entry)) (now (addresses .entry)) page 0 start) r ⌝ }
 {
     let kinds = kind::KINDS;
     let n = prog.len() / 8;
-    let kept = start + 14 * n + 16;
+    let kept = start + jit::SHORT_SLOT * n + jit::EPILOGUE_SIZE;
     if page < kept {
         return false;
     }
@@ -150,10 +154,10 @@ pub fn fits(prog: &[u8], ids: &[u32], addresses: &[u64], page: usize, start: usi
                 slot += 1;
             }
             Glance::Long => {
-                if spare < 28 {
+                if spare < MORE {
                     return false;
                 }
-                spare -= 28;
+                spare -= MORE;
                 slot += 1;
             }
             Glance::Wide => {

@@ -6,6 +6,7 @@ ghost use Rattle.jit.specs.Slots.{slotCode};
 ghost use Rattle.jit.specs.Translation.{goodTarget, orElse, badIn, rest, wideKind, slotsWide};
 ghost use Rattle.lengths.specs.Measures.{Measures, targetsIn};
 ghost use Rattle.measuring.specs.Measures.{Answers};
+ghost use Rattle.jit.specs.Limits.{longestProgram, longestPage};
 use base::Slot;
 use ebpf::insn::Insn;
 use ebpf::kind;
@@ -46,7 +47,7 @@ fn good_target(n: usize, target: u32) -> bool
     if target as usize <= n {
         return true;
     }
-    target == 1000001
+    target == jit::ANCHOR
 }
 
 fn note_bad(bad: Bad, n: usize, slot: Slot, m: Length) -> Bad
@@ -90,7 +91,7 @@ pub fn slots_of(kind: Kind) -> usize
 
 // The slots from 0 on, the first one's code at `start`. Entry 0 of the jump tables is the prologue's.
 pub fn measure(prog: &[u8], ids: &[u32], addresses: &[u64], page: usize, start: usize) -> Measured
-    requires { ⌜ (length (now prog) ≤ 16384) × ((page ≤ 131072) × ((start ≤ page) × (length (now ids) ≡ length (now addresses)))) ⌝ }
+    requires { ⌜ (length (now prog) ≤ longestProgram) × ((page ≤ longestPage) × ((start ≤ page) × (length (now ids) ≡ length (now addresses)))) ⌝ }
     ensures { λ r. ⌜ Answers (length (now (prog .entry)) / 8) page start (rest (suc (length (now (prog .entry)) / 8)) (now (prog .entry)) (now (ids .entry)) (now (addresses .entry)) page 0 start) r ⌝ }
 {
     let kinds = kind::KINDS;

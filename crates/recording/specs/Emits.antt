@@ -12,6 +12,7 @@ use Rattle.x86.specs.Encode.{jumpOpcode}
 use Rattle.x86.specs.Code.{to, size, size-append, blanks, blanks-append, length-blanks, fieldsOf, fields-append, targetsOf, targets-append, length-fields}
 use Rattle.emit.specs.Wrote.{Wrote, then}
 use Rattle.jit.specs.MulDivMod.{Code}
+use Rattle.jit.specs.Limits.{epilogueSize}
 
 -- the entries ys stand from place k on in a table, and r is the next place
 pub record Put (l l′ : List ℕ) (k r : ℕ) (ys : List ℕ) : Type 0 where
@@ -75,7 +76,7 @@ jumped is k e w r = rw (r .at-is, r .next, r .field, r .target) (jumping is k _ 
 
 -- what a slot asks: room in the page for its code and the epilogue behind it, and an entry for its jump
 pub record Room (c f t : List ℕ) (at j : ℕ) (is : Code) : Type 0 where
-  pub page : at + size is + 16 ≤ length c
+  pub page : at + size is + epilogueSize ≤ length c
   pub field : j < length f
   pub target : j < length t
   pub small : length c < 2 ^ 31

@@ -10,7 +10,7 @@ fn location(locations: &[u32], n: usize, exit: u32, target: u32) -> u32
     requires { ⌜ n < length (now locations) ⌝ }
     ensures { λ r. ⌜ r ≡ placeOf (take (n + 1) (now (locations .entry))) exit target ⌝ }
 {
-    if target == 1000001 {
+    if target == jit::ANCHOR {
         return exit;
     }
     let slot = target as usize;

@@ -27,6 +27,7 @@ use Rattle.recording.specs.Emits.{Emits}
 use Rattle.writing.specs.Writes.{Holds, Writes, Fitting}
 use Rattle.translator.specs.declared.translate.Answer.{Answer}
 use Rattle.translator.specs.declared.translate.Answer.the-variants.{Accepted, Refused}
+use Rattle.jit.specs.Limits.{longestPage, epilogueSize}
 
 -- the answer to an outcome, and what it writes at the head of the code buffer and of each table
 abbrev pub answerOf : Outcome → Answer
@@ -136,15 +137,15 @@ all-targets g bs =
     ∙ ap targetsOf (one-list g bs)
 
 -- The blank code, with the epilogue behind it, and everything further as it was.
-written : (g : Flags) (bs : List Block) {c c₁ : List ℕ} {e : ℕ} → e ≡ size (prologue g) + size (flat bs) → e + 16 ≤ length c₁
+written : (g : Flags) (bs : List Block) {c c₁ : List ℕ} {e : ℕ} → e ≡ size (prologue g) + size (flat bs) → e + epilogueSize ≤ length c₁
     → Wrote c c₁ 0 e (blanks (prologue g ++ flat bs)) → sets c₁ e (blanks epilogue) ≡ blanks (whole g bs) ++ drop (size (whole g bs)) c
 written g bs {c} {c₁} {e} d h w =
     let E = blanks epilogue in
-    let le : length E ≡ 16 = length-blanks epilogue ∙ epilogue-size in
-    let sz : size (whole g bs) ≡ e + 16 = omega (arith, whole-size g bs, d) in
+    let le : length E ≡ epilogueSize = length-blanks epilogue ∙ epilogue-size in
+    let sz : size (whole g bs) ≡ e + epilogueSize = omega (arith, whole-size g bs, d) in
     sets-eq E c₁ e (rw le h)
-    ∙ rw (w .head, le, later c c₁ (e + 8) (e + 16) (omega arith) (w .tail), sz)
-    (ap (λ (l : List ℕ). l ++ drop (e + 16) c) (sym (blanks-append (prologue g ++ flat bs) epilogue) ∙ ap blanks (one-list g bs)))
+    ∙ rw (w .head, le, later c c₁ (e + 8) (e + epilogueSize) (omega arith) (w .tail), sz)
+    (ap (λ (l : List ℕ). l ++ drop (e + epilogueSize) c) (sym (blanks-append (prologue g ++ flat bs) epilogue) ∙ ap blanks (one-list g bs)))
 
 set-sets : (l : List ℕ) (xs : List ℕ) (n : ℕ) → length xs ≡ n → n < length l → set (sets l 0 xs) n 0 ≡ over (xs ++ (0 ∷ [])) l
 set-sets l xs n e h =
@@ -165,13 +166,13 @@ module _ {g : Flags} {n page : ℕ} {w : Walk} (a : Acceptable n page (size (pro
   slots : slotsIn (a .bs) ≡ n
   slots = all (a .bs) (a .walk)
 
-  pub ends-inside : e + 16 ≤ page
+  pub ends-inside : e + epilogueSize ≤ page
   ends-inside = omega (arith, head .end-is, a .room)
 
   pub few-jumps : j ≤ n + 1
   few-jumps = omega (arith, head .few, slots)
 
-  sized : size is ≡ e + 16
+  sized : size is ≡ e + epilogueSize
   sized = omega (arith, whole-size g (a .bs), head .end-is)
 
   listed : length (fieldsOf 0 is) ≡ j
@@ -186,8 +187,8 @@ module _ {g : Flags} {n page : ℕ} {w : Walk} (a : Acceptable n page (size (pro
       omega (arith, at-k, fields-inside 0 is k (omega (arith, listed)), sized, ends-inside)
 
   -- What is written and filled is what the definition says.
-  pub accepts : {c₂ l₂ : List ℕ} → page ≤ 131072 → page ≡ length c → length c₁ ≡ length c → n < length l → j ≤ length f → j ≤ length t → Ended n e j c₁ c₂ l₁ l₂ f₁ t₁
-      → Translated (finish g n page w) c c₂ l l₂ f f₁ t t₁ (Accepted (e + 16) j)
+  pub accepts : {c₂ l₂ : List ℕ} → page ≤ longestPage → page ≡ length c → length c₁ ≡ length c → n < length l → j ≤ length f → j ≤ length t → Ended n e j c₁ c₂ l₁ l₂ f₁ t₁
+      → Translated (finish g n page w) c c₂ l l₂ f f₁ t t₁ (Accepted (e + epilogueSize) j)
   accepts {c₂} {l₂} k m m₁ hl hf ht z =
       let bs = a .bs in
       let loc = placeOf (locations g bs) (exitOf g bs) in

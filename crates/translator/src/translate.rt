@@ -7,6 +7,7 @@ ghost use Rattle.jit.specs.Frame.{prologue};
 ghost use Rattle.jit.specs.Translation.{Inputs, rest, translationOf};
 ghost use Rattle.writing.specs.Writes.{Fitting};
 ghost use Rattle.translator.specs.Translated.{Begun, Ended, Translated};
+ghost use Rattle.jit.specs.Limits.{shortestPage, longestProgram, longestPage, longestPrologue, epilogueSize};
 use jit::Flags;
 use jit::Refusal;
 use judging::judge;
@@ -20,7 +21,7 @@ pub enum Answer {
 }
 
 fn prologue_size(flags: Flags) -> usize
-    ensures { λ r. ⌜ (r ≡ size (prologue flags)) × (r ≤ 49) ⌝ }
+    ensures { λ r. ⌜ (r ≡ size (prologue flags)) × (r ≤ longestPrologue) ⌝ }
 {
     if flags.use_mbuff {
         if flags.update_data_ptr {
@@ -44,9 +45,9 @@ fn write_begin(
     fields: &mut [u32],
     targets: &mut [u32],
 ) -> Emission
-    requires { ⌜ (length (now prog) ≤ 16384) × ((page ≤ 131072) × ((start ≤ page) × (length (now ids) ≡ length (now addresses)))) ⌝ }
+    requires { ⌜ (length (now prog) ≤ longestProgram) × ((page ≤ longestPage) × ((start ≤ page) × (length (now ids) ≡ length (now addresses)))) ⌝ }
     requires { ⌜ Fitting (rest (suc (length (now prog) / 8)) (now prog) (now ids) (now addresses) page 0 start) page start (now code) (now locations) (now fields) (now targets) (length (now prog) / 8) ⌝ }
-    requires { ⌜ (start ≡ size (prologue flags)) × ((start ≤ 49) × (4096 ≤ page)) ⌝ }
+    requires { ⌜ (start ≡ size (prologue flags)) × ((start ≤ longestPrologue) × (shortestPage ≤ page)) ⌝ }
     ensures { λ r. ⌜ Begun (rest (suc (length (now (prog .entry)) / 8)) (now (prog .entry)) (now (ids .entry)) (now (addresses .entry)) page 0 start) flags (now (code .entry)) (now (code .exit)) (now (locations .entry)) (now (locations .exit)) (now (fields .entry)) (now (fields .exit)) (now (targets .entry)) (now (targets .exit)) (r .at .offset) (r .jumps) ⌝ }
 {
     writing::frame::emit_prologue(code, fields, targets, flags);
@@ -73,7 +74,7 @@ fn write_end(
     end: usize,
     jumps: usize,
 )
-    requires { ⌜ (end + 16 ≤ length (now code)) × ((length (now code) ≤ 131072) × ((n < length (now locations)) × ((jumps ≤ length (now fields)) × (jumps ≤ length (now targets))))) ⌝ }
+    requires { ⌜ (end + epilogueSize ≤ length (now code)) × ((length (now code) ≤ longestPage) × ((n < length (now locations)) × ((jumps ≤ length (now fields)) × (jumps ≤ length (now targets))))) ⌝ }
     requires { ⌜ ((k : ℕ) → k < jumps → getD (now fields) k 0 + 4 ≤ length (now code)) ⌝ }
     ensures { λ _. ⌜ Ended n end jumps (now (code .entry)) (now (code .exit)) (now (locations .entry)) (now (locations .exit)) (now (fields .entry)) (now (targets .entry)) ⌝ }
 {
@@ -127,7 +128,7 @@ pub fn translate(
                     );
                     let end = e.at.offset;
                     write_end(code, locations, fields, targets, n, end, e.jumps);
-                    let length = end + 16;
+                    let length = end + jit::EPILOGUE_SIZE;
                     Answer::Accepted {
                         length: length,
                         jumps: e.jumps,

@@ -6,9 +6,10 @@ use Prim.Native.Nat.{ℕ, _+_, _≤_}
 use Rattle.jit.specs.declared.Bad.the-variants.{Nowhere}
 use Rattle.x86.specs.Code.{size}
 use Rattle.jit.specs.Translation.{Block, Walk, done, flat, firstBad}
+use Rattle.jit.specs.Limits.{epilogueSize}
 
 pub record Acceptable (n page start : ℕ) (w : Walk) : Type 0 where
   pub bs : List Block
   pub walk : w ≡ done bs
-  pub room : start + size (flat bs) + 16 ≤ page
+  pub room : start + size (flat bs) + epilogueSize ≤ page
   pub targets : firstBad n 0 bs ≡ Nowhere

@@ -21,6 +21,7 @@ use Rattle.jit.specs.Bounds.{slotsIn, wide-some}
 use Rattle.recording.specs.Emits.{Put, put-none, puts, Emits, Room}
 use Rattle.writing.specs.Numbered.{codeAt, Written, written}
 use Rattle.walk.specs.Sofar.{Sofar, flat-snoc, starts-snoc, begins, stops, sound, goes-on, ends, next-is}
+use Rattle.jit.specs.Limits.{longestPage, epilogueSize}
 
 -- what is left behind the slots of a program: where they end, the jumps that are listed, the prologue's with them, the page and the tables
 pub record Left (bs : List Block) (start : ℕ) (c c′ l l′ f f′ t t′ : List ℕ) (end jumps : ℕ) : Type 0 where
@@ -42,7 +43,7 @@ pub record Writes (w : Walk) (start : ℕ) (c c′ l l′ f f′ t t′ : List �
 -- what it asks: a walk that is accepted, and room for it
 abbrev pub Fits : Walk → (page start : ℕ) → Type 0
 Fits (refused r) page start = ⊥
-Fits (done bs) page start = start + size (flat bs) + 16 ≤ page
+Fits (done bs) page start = start + size (flat bs) + epilogueSize ≤ page
 
 pub record Fitting (w : Walk) (page start : ℕ) (c l f t : List ℕ) (n : ℕ) : Type 0 where
   pub fits : Fits w page start
@@ -86,10 +87,10 @@ writing-begins program ids addresses kinds page start c l f t h e =
 
 -- a block that the walk still has ahead of it fits, since the whole does
 ahead : (w : Walk) (page start : ℕ) (bs : List Block) (b : Block) (v : Walk) → w ≡ joined bs (joined (b ∷ []) v) → Fits w page start
-    → start + size (flat bs) + size (b .code) + 16 ≤ page
+    → start + size (flat bs) + size (b .code) + epilogueSize ≤ page
 ahead w page start bs b (refused r) e h = absurd (rw e at h)
 ahead w page start bs b (done cs) e h =
-    let g : start + size (flat (bs ++ (b ∷ cs))) + 16 ≤ page = rw e at h in
+    let g : start + size (flat (bs ++ (b ∷ cs))) + epilogueSize ≤ page = rw e at h in
     omega (arith, g, parts bs)
   where
     parts : (xs : List Block) → size (flat (xs ++ (b ∷ cs))) ≡ size (flat xs) + (size (b .code) + size (flat cs))
@@ -103,10 +104,10 @@ module _ {program ids addresses kinds : List ℕ} {page start : ℕ} {c₀ c l�
   pub never-stops : (r : Refusal) → 8 * slot < length program → stop r ≡ stepAt program ids addresses slot → ⊥
   never-stops r h e = rw (stops (m .sofar) r h e) at fit
 
-  pub has-room : (b : Block) → 8 * slot < length program → go b ≡ stepAt program ids addresses slot → at + size (b .code) + 16 ≤ page
+  pub has-room : (b : Block) → 8 * slot < length program → go b ≡ stepAt program ids addresses slot → at + size (b .code) + epilogueSize ≤ page
   has-room b h e = by (leb (at + size (b .code)) page) (next-is (m .sofar) b h e .0) (next-is (m .sofar) b h e .1)
     where
-      by : (x : Bool) (v : Walk) → rest (suc (length program / 8)) program ids addresses page 0 start ≡ joined (m .bs) (within x slot b v) → at + size (b .code) + 16 ≤ page
+      by : (x : Bool) (v : Walk) → rest (suc (length program / 8)) program ids addresses page 0 start ≡ joined (m .bs) (within x slot b v) → at + size (b .code) + epilogueSize ≤ page
       by true v q = omega (arith, m .sofar .place-is, ahead (rest (suc (length program / 8)) program ids addresses page 0 start) page start (m .bs) b v q fit)
       by false v q = absurd (rw q at fit)
 
@@ -152,7 +153,7 @@ module _ {program ids addresses kinds : List ℕ} {page start : ℕ} {c₀ c l�
       → 8 * slot + 8 * slotsWide (eqb number 4) ≤ length program
   next-inside h e b q = rw (next-wide h e b q) (sound (m .sofar) (next-block h .0) (next-block h .1) .inside)
 
-  pub next-room : {i : Insn} → 8 * slot < length program → i ≡ insnAt program slot → page ≤ 131072 → page ≡ length c₀
+  pub next-room : {i : Insn} → 8 * slot < length program → i ≡ insnAt program slot → page ≤ longestPage → page ≡ length c₀
       → length program / 8 < length f₀ → length program / 8 < length t₀ → Room c f t at jumps (codeAt program ids addresses slot i)
   next-room h e p q hf ht =
       let b = next-block h .0 in

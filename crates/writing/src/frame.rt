@@ -8,6 +8,7 @@ ghost use Rattle.x86.specs.Code.{blanks, size};
 ghost use Rattle.emit.specs.Wrote.{Wrote};
 ghost use Rattle.jit.specs.Frame.{saves, keepPacket, packetStart, packetEnd, argument, enter, prologue, epilogue};
 ghost use Rattle.recording.specs.Emits.{Emits, Room};
+ghost use Rattle.jit.specs.Limits.{epilogueSize};
 use base::Position;
 use base::Size;
 use base::Width;
@@ -67,7 +68,7 @@ fn emit_enter(code: &mut [u8], fields: &mut [u32], targets: &mut [u32], e: Emiss
     let b = emit::alu::emit_alu_imm32(code, a, Width::W64, 0x81, 5, 4, 512);
     let c = emit::jump::emit_call(code, b, 5);
     let d = emit::jump::emit_jmp(code, c, 0);
-    emission::record_jump(fields, targets, d, e.jumps, 1000001)
+    emission::record_jump(fields, targets, d, e.jumps, jit::ANCHOR)
 }
 
 pub fn emit_prologue(
@@ -94,7 +95,7 @@ pub fn emit_prologue(
 
 // Sixteen bytes in two words, and none behind them: add rsp, 512; pop r15, r14, r13, rbx, rbp; ret.
 pub fn emit_epilogue(code: &mut [u8], at: usize)
-    requires { ⌜ at + 16 ≤ length (now code) ⌝ }
+    requires { ⌜ at + epilogueSize ≤ length (now code) ⌝ }
     ensures { λ _. ⌜ now (code .exit) ≡ sets (now (code .entry)) at (blanks epilogue) ⌝ }
 {
     page::emit_words(code, at, 0x4100000200c48148, 0xc35d5b5d415e415f, 8);

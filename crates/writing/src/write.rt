@@ -6,6 +6,7 @@ ghost use lib.ListN.{length};
 ghost use Rattle.jit.specs.Translation.{entries, rest, slotsWide};
 ghost use Rattle.recording.specs.Emits.{Put};
 ghost use Rattle.writing.specs.Writes.{Fitting, Writes};
+ghost use Rattle.jit.specs.Limits.{longestProgram, longestPage};
 use crate::slot;
 use base::Position;
 use base::Slot;
@@ -38,7 +39,7 @@ pub fn write_slots(
     fields: &mut [u32],
     targets: &mut [u32],
 ) -> Emission
-    requires { ⌜ (length (now prog) ≤ 16384) × ((page ≤ 131072) × ((start ≤ page) × (length (now ids) ≡ length (now addresses)))) ⌝ }
+    requires { ⌜ (length (now prog) ≤ longestProgram) × ((page ≤ longestPage) × ((start ≤ page) × (length (now ids) ≡ length (now addresses)))) ⌝ }
     requires { ⌜ Fitting (rest (suc (length (now prog) / 8)) (now prog) (now ids) (now addresses) page 0 start) page start (now code) (now locations) (now fields) (now targets) (length (now prog) / 8) ⌝ }
     ensures { λ r. ⌜ Writes (rest (suc (length (now (prog .entry)) / 8)) (now (prog .entry)) (now (ids .entry)) (now (addresses .entry)) page 0 start) start (now (code .entry)) (now (code .exit)) (now (locations .entry)) (now (locations .exit)) (now (fields .entry)) (now (fields .exit)) (now (targets .entry)) (now (targets .exit)) (r .at .offset) (r .jumps) ⌝ }
 {
