@@ -1,10 +1,14 @@
--- What the verdict on the slots means: good, the walk is accepted; not, its refusal is the outcome under any flags whose prologue ends
--- where the slots begin.
+-- The verdict on the slots: the walk's refusal; or 13 at n, where the epilogue has no room; or 14 at the first bad target; or good. And what
+-- it means: good, the walk is accepted; not, its refusal is the outcome under any flags whose prologue ends where the slots begin.
 -- Assumes nothing.
 use mathlib.Core.Path.{_≡_, _∙_, refl, ap, sym}
+use mathlib.Core.Bool.{Bool, true, false}
 use Prim.Native.Nat.{ℕ, _+_, _<_, _≤_}
 use native.Mathlib.Omega.{arith}
+use lib.Dec.{leb, leb→le}
 use borrow.Author.Tests.{lt-leb, le-leb}
+use Rattle.base.specs.Pick.{pick}
+use Rattle.base.specs.Tests.{true-T}
 use Rattle.base.specs.declared.Slot.{Slot}
 use Rattle.jit.specs.declared.Flags.{Flags}
 use Rattle.jit.specs.declared.Refusal.{Refusal}
@@ -13,7 +17,8 @@ use Rattle.jit.specs.declared.Bad.the-variants.{Nowhere, At}
 use Rattle.x86.specs.Code.{size}
 use Rattle.jit.specs.Frame.{prologue}
 use Rattle.jit.specs.Bounds.{whole-size}
-use Rattle.jit.specs.Translation.{at, Walk, refused, done, flat, whole, firstBad, finish, no}
+use Rattle.jit.specs.Translation.{at, Walk, refused, done, flat, whole, firstBad, unlessBad, finish, no}
+use Rattle.jit.specs.Translation as jit
 use Rattle.walk.specs.Acceptable.{Acceptable}
 use Rattle.measuring.specs.Measures.{measuredIs}
 use Rattle.measuring.specs.declared.measure.Measured.{Measured}
@@ -22,11 +27,43 @@ use Rattle.judging.specs.declared.verdict.Verdict.{Verdict}
 use Rattle.judging.specs.declared.verdict.Verdict.the-variants.{Good, Not}
 use Rattle.jit.specs.Limits.{epilogueSize}
 
-abbrev pub Judges : (n page start : ℕ) → Walk → Verdict → Type 0
-Judges n page start w Good = Acceptable n page start w
-Judges n page start w (Not r) = (g : Flags) → start ≡ size (prologue g) → finish g n page w ≡ no r
+-- a target that goes nowhere is refused
+abbrev targetsGood : Bad → Verdict
+targetsGood Nowhere = Good
+targetsGood (At s) = Not (Refusal.BadTarget s)
 
--- an answer's parts
+-- THE CONTRACT of `judge`, by an equation; `start` is where the first slot's code begins
+abbrev pub verdictOf : (n page start : ℕ) → Walk → Verdict
+verdictOf n page start (refused r) = Not r
+verdictOf n page start (done bs) = pick (leb (start + size (flat bs) + epilogueSize) page) (targetsGood (firstBad n 0 bs)) (Not (Refusal.NoRoom (at n)))
+
+-- what a verdict means to the definition
+module _ (n page : ℕ) where
+  pub is-good : (start : ℕ) (w : Walk) {r : Verdict} → r ≡ verdictOf n page start w → r ≡ Good → Acceptable n page start w
+  is-good start (refused s) e g = let q : Good ≡ Not s = sym g ∙ e in let z : _≡_ {A = ℕ} 0 1 = cc in absurd (omega arith)
+  is-good start (done bs) e g = by (leb (start + size (flat bs) + epilogueSize) page) refl (firstBad n 0 bs) refl (sym g ∙ e)
+    where
+      by : (t : Bool) → leb (start + size (flat bs) + epilogueSize) page ≡ t → (b : Bad) → firstBad n 0 bs ≡ b
+          → Good ≡ pick t (targetsGood b) (Not (Refusal.NoRoom (at n))) → Acceptable n page start (done bs)
+      by true f Nowhere x q = record { bs = bs; walk = refl; room = leb→le _ _ (true-T _ f); targets = x }
+      by true f (At s) x q = let z : _≡_ {A = ℕ} 0 1 = cc in absurd (omega arith)
+      by false f b x q = let z : _≡_ {A = ℕ} 0 1 = cc in absurd (omega arith)
+
+  pub is-not : (g : Flags) (w : Walk) {start : ℕ} {r : Verdict} {s : Refusal} → start ≡ size (prologue g) → r ≡ verdictOf n page start w → r ≡ Not s
+      → finish g n page w ≡ no s
+  is-not g (refused t) {s = s} p e q = let i : Not s ≡ Not t = sym q ∙ e in cc
+  is-not g (done bs) {start} {r} {s} p e q = rw (long) (by (leb (start + size (flat bs) + epilogueSize) page) (firstBad n 0 bs) (sym q ∙ e))
+    where
+      long : size (whole g bs) ≡ start + size (flat bs) + epilogueSize
+      long = omega (arith, whole-size g bs, p)
+
+      by : (t : Bool) (b : Bad) → Not s ≡ pick t (targetsGood b) (Not (Refusal.NoRoom (at n)))
+          → pick t (unlessBad b (jit.accepted g bs)) (no (Refusal.NoRoom (at n))) ≡ no s
+      by true Nowhere i = cc
+      by true (At x) i = cc
+      by false b i = cc
+
+-- the parts of what the measuring pass answers
 abbrev endOf : Measured → ℕ
 endOf (Done e j b) = e
 endOf (Refused r) = 0
@@ -35,33 +72,34 @@ abbrev badOf : Measured → Bad
 badOf (Done e j b) = b
 badOf (Refused r) = Nowhere
 
--- what the measuring pass says settles the verdict
+-- what is found settles the verdict: the quick check says yes, or what the measuring pass answers
 module _ (n page start : ℕ) where
-  pub refuses : (w : Walk) {r : Refusal} → Refused r ≡ measuredIs n start w → Judges n page start w (Not r)
-  refuses (refused s) e = λ g h. cc
-  refuses (done bs) e = λ g h. cc
+  pub accepts : {w : Walk} → Acceptable n page start w → Good ≡ verdictOf n page start w
+  accepts a = rw (a .walk, le-leb _ _ (a .room), a .targets)
 
-  pub no-room : (w : Walk) {e j : ℕ} {b : Bad} → Done e j b ≡ measuredIs n start w → page < e + epilogueSize → Judges n page start w (Not (Refusal.NoRoom (at n)))
-  no-room (refused s) q h = λ g p. cc
+  pub refuses : (w : Walk) {r : Refusal} → Refused r ≡ measuredIs n start w → Not r ≡ verdictOf n page start w
+  refuses (refused s) e = cc
+  refuses (done bs) e = cc
+
+  pub no-room : (w : Walk) {e j : ℕ} {b : Bad} → Done e j b ≡ measuredIs n start w → page < e + epilogueSize
+      → Not (Refusal.NoRoom (at n)) ≡ verdictOf n page start w
+  no-room (refused s) q h = cc
   no-room (done bs) {e} q h =
-      λ g p.
       let d : e ≡ start + size (flat bs) = ap endOf q in
-      let long : page < size (whole g bs) = omega (arith, whole-size g bs, d, p) in
-      rw (lt-leb _ _ long)
+      rw (← d, lt-leb _ _ h)
 
   pub bad-jump : (w : Walk) {e j : ℕ} {b : Bad} {s : Slot} → Done e j b ≡ measuredIs n start w → b ≡ At s → e + epilogueSize ≤ page
-      → Judges n page start w (Not (Refusal.BadTarget s))
-  bad-jump (refused r) q f h = λ g p. cc
+      → Not (Refusal.BadTarget s) ≡ verdictOf n page start w
+  bad-jump (refused r) q f h = cc
   bad-jump (done bs) {e} {b = b} q f h =
-      λ g p.
       let d : e ≡ start + size (flat bs) = ap endOf q in
       let x : b ≡ firstBad n 0 bs = ap badOf q in
-      let fits : size (whole g bs) ≤ page = omega (arith, whole-size g bs, d, p) in
-      rw (le-leb _ _ fits, ← x, f)
+      rw (← d, le-leb _ _ h, ← x, f)
 
-  pub accepted : (w : Walk) {e j : ℕ} {b : Bad} → Done e j b ≡ measuredIs n start w → b ≡ Nowhere → e + epilogueSize ≤ page → Judges n page start w Good
-  accepted (refused r) q f h = let z : _≡_ {A = ℕ} 0 1 = cc in absurd (omega arith)
-  accepted (done bs) {e} {b = b} q f h =
+  pub all-good : (w : Walk) {e j : ℕ} {b : Bad} → Done e j b ≡ measuredIs n start w → b ≡ Nowhere → e + epilogueSize ≤ page
+      → Good ≡ verdictOf n page start w
+  all-good (refused r) q f h = cc
+  all-good (done bs) {e} {b = b} q f h =
       let d : e ≡ start + size (flat bs) = ap endOf q in
       let x : b ≡ firstBad n 0 bs = ap badOf q in
-      record { bs = bs; walk = refl; room = omega (arith, d); targets = sym x ∙ f }
+      rw (← d, le-leb _ _ h, ← x, f)

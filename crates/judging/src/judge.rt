@@ -3,7 +3,7 @@ ghost use mathlib.Core.Path.{_≡_};
 ghost use Prim.Native.Nat.{suc, _/_, _≤_};
 ghost use lib.ListN.{length};
 ghost use Rattle.jit.specs.Translation.{rest};
-ghost use Rattle.judging.specs.Judged.{Judges};
+ghost use Rattle.judging.specs.Judged.{verdictOf};
 ghost use Rattle.jit.specs.Limits.{longestProgram, longestPage};
 use crate::verdict::Verdict;
 use base::Slot;
@@ -16,7 +16,7 @@ use measuring::measure::Measured;
 // `start` is where the first slot's code begins.
 pub fn judge(prog: &[u8], ids: &[u32], addresses: &[u64], page: usize, start: usize) -> Verdict
     requires { ⌜ (length (now prog) ≤ longestProgram) × ((page ≤ longestPage) × ((start ≤ page) × (length (now ids) ≡ length (now addresses)))) ⌝ }
-    ensures { λ r. ⌜ Judges (length (now (prog .entry)) / 8) page start (rest (suc (length (now (prog .entry)) / 8)) (now (prog .entry)) (now (ids .entry)) (now (addresses .entry)) page 0 start) r ⌝ }
+    ensures { λ r. ⌜ r ≡ verdictOf (length (now (prog .entry)) / 8) page start (rest (suc (length (now (prog .entry)) / 8)) (now (prog .entry)) (now (ids .entry)) (now (addresses .entry)) page 0 start) ⌝ }
 {
     if fits::fits(prog, ids, addresses, page, start) {
         return Verdict::Good;

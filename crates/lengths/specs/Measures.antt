@@ -5,7 +5,7 @@ use mathlib.Core.List.{List, [], _∷_, append-nil}
 use Prim.Native.Nat.{ℕ, zero, suc, _+_, _≤_}
 use native.Mathlib.Omega.{arith}
 use lib.Dec.{eqb}
-use lib.ListN.{length}
+use lib.ListN.{length, getD}
 use borrow.Author.Tests.{eq-eqb, ne-eqb}
 use Rattle.base.specs.Lists.{empty}
 use Rattle.base.specs.Pick.{pick}
@@ -30,26 +30,38 @@ use Rattle.jit.specs.SlotSize.{computed-none, imm-jumps}
 abbrev pub targetsIn : (jumps target : ℕ) → List ℕ
 targetsIn jumps target = pick (eqb jumps 0) [] (target ∷ [])
 
+-- what a slot lists: at most one target; 0 stands for none
 pub record Lists (jumps target : ℕ) (is : Code) : Type 0 where
   pub few : jumps ≤ 1
   pub targets : targetsIn jumps target ≡ targetsOf is
+  pub first : target ≡ getD (targetsOf is) 0 0
 
-pub record Measures (length jumps target : ℕ) (is : Code) : Type 0 where
-  pub size-is : length ≡ size is
-  pub jumps-are : jumps ≡ lib.ListN.length (targetsOf is)
+pub record Measures (bytes jumps target : ℕ) (is : Code) : Type 0 where
+  pub size-is : bytes ≡ size is
+  pub jumps-are : jumps ≡ length (targetsOf is)
   pub targets-are : targetsIn jumps target ≡ targetsOf is
+  pub first : target ≡ getD (targetsOf is) 0 0
+
+counted : {j t : ℕ} {is : Code} → Lists j t is → j ≡ length (targetsOf is)
+counted {j} {t} l = by j (l .few) ∙ ap length (l .targets)
+  where
+    by : (j : ℕ) → j ≤ 1 → j ≡ length (targetsIn j t)
+    by zero g = refl
+    by (suc zero) g = refl
+    by (suc (suc j)) g = absurd (omega (arith, g))
 
 pub measured : (size′ jumps target : ℕ) (is : Code) → size′ ≡ size is → Lists jumps target is → Measures size′ jumps target is
-measured s j t is h l = record { size-is = h; jumps-are = counted j (l .few) ∙ ap length (l .targets); targets-are = l .targets }
-  where
-    counted : (j : ℕ) → j ≤ 1 → j ≡ length (targetsIn j t)
-    counted zero g = refl
-    counted (suc zero) g = refl
-    counted (suc (suc j)) g = absurd (omega (arith, g))
+measured s j t is h l = record { size-is = h; jumps-are = counted l; targets-are = l .targets; first = l .first }
+
+-- It admits one answer only: the code settles both numbers.
+pub one-listing : {j t j′ t′ : ℕ} {is : Code} → Lists j t is → Lists j′ t′ is → (j ≡ j′) × (t ≡ t′)
+one-listing a b = (counted a ∙ sym (counted b), a .first ∙ sym (b .first))
 
 -- no target
 pub lists-none : (is : Code) → length (targetsOf is) ≤ 0 → Lists 0 0 is
-lists-none is h = record { few = omega arith; targets = sym (empty (targetsOf is) h) }
+lists-none is h =
+    let none = empty (targetsOf is) h in
+    record { few = omega arith; targets = sym none; first = rw none }
 
 pub alu-none : (o : AluOp) (w : Width) (s : Source) (i : Insn) → length (targetsOf (aluCode o w s i)) ≤ 0
 alu-none o w Imm i = omega arith
@@ -65,8 +77,8 @@ mov-none w Reg i = omega arith
 
 -- one
 pub jump-one : (c : Condition) (w : Width) (s : Source) (slot : ℕ) (i : Insn) → Lists 1 (targetOf slot (i .off)) (jumpCode c w s slot i)
-jump-one c w Imm slot i = record { few = omega arith; targets = refl }
-jump-one c w Reg slot i = record { few = omega arith; targets = refl }
+jump-one c w Imm slot i = record { few = omega arith; targets = refl; first = refl }
+jump-one c w Reg slot i = record { few = omega arith; targets = refl; first = refl }
 
 pub imm-lists : (o : MulOp) (w : Width) (slot : ℕ) (i : Insn) → Lists 0 0 (mulDivModCode o w Imm slot i)
 imm-lists o w slot i = lists-none (mulDivModCode o w Imm slot i) (imm-jumps o w (regOf (i .dst)) (i .imm))
@@ -80,16 +92,16 @@ guarded o w slot i =
     sym (targets-append (guard o slot w s d) (computed o w operand d) ∙ rw (empty (targetsOf (computed o w operand d)) (computed-none o w operand d (omega arith))) (append-nil (targetsOf (guard o slot w s d))))
 
 pub mul-lists : (w : Width) (slot : ℕ) (i : Insn) → Lists 0 0 (mulDivModCode Mul w Reg slot i)
-mul-lists w slot i = record { few = omega arith; targets = guarded Mul w slot i }
+mul-lists w slot i = record { few = omega arith; targets = guarded Mul w slot i; first = rw (← guarded Mul w slot i) }
 
 pub div-lists : (w : Width) (slot : ℕ) (i : Insn) → Lists 1 (slot + 1) (mulDivModCode Div w Reg slot i)
-div-lists w slot i = record { few = omega arith; targets = guarded Div w slot i }
+div-lists w slot i = record { few = omega arith; targets = guarded Div w slot i; first = refl }
 
 pub mod-lists : (w : Width) (slot : ℕ) (i : Insn) → Lists 1 (slot + 1) (mulDivModCode Mod w Reg slot i)
-mod-lists w slot i = record { few = omega arith; targets = guarded Mod w slot i }
+mod-lists w slot i = record { few = omega arith; targets = guarded Mod w slot i; first = refl }
 
 pub helper-lists : (slot : ℕ) (i : Insn) (v : ℕ) → i .src ≡ 0 → Lists 0 0 (callCode slot i v)
-helper-lists slot i v e = rw (eq-eqb _ _ e) (record { few = omega arith; targets = refl })
+helper-lists slot i v e = rw (eq-eqb _ _ e) (record { few = omega arith; targets = refl; first = refl })
 
 pub local-lists : (slot : ℕ) (i : Insn) (v : ℕ) → ¬ (i .src ≡ 0) → Lists 1 (targetOf slot (i .imm)) (callCode slot i v)
-local-lists slot i v e = rw (ne-eqb _ _ e) (record { few = omega arith; targets = refl })
+local-lists slot i v e = rw (ne-eqb _ _ e) (record { few = omega arith; targets = refl; first = refl })

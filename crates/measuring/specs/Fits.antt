@@ -177,7 +177,7 @@ module _ {program : List ℕ} (ids addresses : List ℕ) {n slot : ℕ} (s : See
 
   pub seen-ja : (t : Bool) → t ≡ leb (targetOf slot (i .off)) n → 15 ≡ getD numbers (i .opc) 0 → Sees program ids addresses n slot (narrowIf t)
   seen-ja false q e = tt
-  seen-ja true q e = goes-to {j = 1} {t = targetOf slot (i .off)} Ja 0 (kind-is 15 (λ z. omega (arith, z)) e) refl (record { few = omega arith; targets = refl }) (leb-true _ _ (sym q))
+  seen-ja true q e = goes-to {j = 1} {t = targetOf slot (i .off)} Ja 0 (kind-is 15 (λ z. omega (arith, z)) e) refl (record { few = omega arith; targets = refl; first = refl }) (leb-true _ _ (sym q))
 
   pub seen-jump : (t : Bool) → t ≡ leb (targetOf slot (i .off)) n → 16 ≡ getD numbers (i .opc) 0 → Sees program ids addresses n slot (narrowIf t)
   seen-jump false q e = tt

@@ -1,4 +1,4 @@
-use Rattle.judging.specs.Judged.{refuses, no-room, bad-jump, accepted}
+use Rattle.judging.specs.Judged.{accepts, refuses, no-room, bad-jump, all-good}
 use Rattle.jit.specs.Translation.{rest}
 use Prim.Native.Nat.{suc, _/_}
 use lib.ListN.{length}
@@ -14,7 +14,7 @@ fits-requires c κs = search needs
 
 -- src/judge.rt:21:9
 returns : tie.Need-returns
-returns c = rw (c .if1 .taken) at (c .before .fits2 .ensures)
+returns c = accepts _ _ _ (rw (c .if1 .taken) at (c .before .fits2 .ensures))
 
 -- src/judge.rt:23:11
 measure-requires : tie.Need-measure-requires
@@ -53,7 +53,7 @@ returns-4 c = refuses (length (c .before .before .before .before .before .before
 
 -- src/judge.rt:16:1
 returns-5 : tie.Need-returns-5
-returns-5 c = accepted (length (c .before .before .before .before .before .before .before .before .before .before .before .before .args .prog .now) / 8) (c .before .before .before .before .before .before .before .before .before .before .before .before .args .page) (c .before .before .before .before .before .before .before .before .before .before .before .before .args .start) (rest (suc (length (c .before .before .before .before .before .before .before .before .before .before .before .before .args .prog .now) / 8)) (c .before .before .before .before .before .before .before .before .before .before .before .before .args .prog .now) (c .before .before .before .before .before .before .before .before .before .before .before .before .args .ids .now) (c .before .before .before .before .before .before .before .before .before .before .before .before .args .addresses .now) (c .before .before .before .before .before .before .before .before .before .before .before .before .args .page) 0 (c .before .before .before .before .before .before .before .before .before .before .before .before .args .start)) (sym (c .before .before .before .before .end .given .1) ∙ c .before .before .before .before .before .before .measure .ensures .answer) (c .enum-told .given .1) (c .before .before .if2 .left)
+returns-5 c = all-good (length (c .before .before .before .before .before .before .before .before .before .before .before .before .args .prog .now) / 8) (c .before .before .before .before .before .before .before .before .before .before .before .before .args .page) (c .before .before .before .before .before .before .before .before .before .before .before .before .args .start) (rest (suc (length (c .before .before .before .before .before .before .before .before .before .before .before .before .args .prog .now) / 8)) (c .before .before .before .before .before .before .before .before .before .before .before .before .args .prog .now) (c .before .before .before .before .before .before .before .before .before .before .before .before .args .ids .now) (c .before .before .before .before .before .before .before .before .before .before .before .before .args .addresses .now) (c .before .before .before .before .before .before .before .before .before .before .before .before .args .page) 0 (c .before .before .before .before .before .before .before .before .before .before .before .before .args .start)) (sym (c .before .before .before .before .end .given .1) ∙ c .before .before .before .before .before .before .measure .ensures .answer) (c .enum-told .given .1) (c .before .before .if2 .left)
 
 pub judge-spec : {M : Type 1} → statement M
 judge-spec =

@@ -111,7 +111,7 @@ returns-13 : tie.Need-returns-13
 returns-13 c = rw (c .enum-told12 .given .1) (λ v. lists-none (slotCode Be (c .before .before .args .slot .number) (c .before .before .args .i) v) (swap-jumps (regOf (c .before .before .args .i .dst)) (c .before .before .args .i .imm)))
 
 returns-14 : tie.Need-returns-14
-returns-14 c = rw (c .before .enum-told13 .given .1, c .target-of .ensures) (λ v. record { few = omega arith; targets = refl })
+returns-14 c = rw (c .before .enum-told13 .given .1, c .target-of .ensures) (λ v. record { few = omega arith; targets = refl; first = refl })
 
 returns-15 : tie.Need-returns-15
 returns-15 c = rw (c .before .enum-told14 .given .1, c .target-of2 .ensures) (λ v. jump-one (c .before .enum-told14 .given .0 .0) (c .before .enum-told14 .given .0 .1 .0) (c .before .enum-told14 .given .0 .1 .1 .0) (c .before .before .before .args .slot .number) (c .before .before .before .args .i))

@@ -1,4 +1,6 @@
 use Rattle.jit.specs.Translation.{stepAt}
+use Rattle.walk.specs.Steps.{operandIs}
+use mathlib.Core.Path.{_∙_, sym, ap}
 use native.Mathlib.Omega.{arith}
 use borrow.Author.Tests.{le-leb, lt-leb}
 use borrow.Author.Needs.{needs}
@@ -16,15 +18,15 @@ enum-told c = search needs
 
 returns : tie.Need-returns
 unfolding stepAt
-returns c = record { step = rw (← c .before .before .get-insn .ensures, c .enum-told .given .1); registers = tt }
+returns c = record { step = rw (← c .before .before .get-insn .ensures, c .enum-told .given .1); registers = tt; hands-on = tt }
 
 returns-2 : tie.Need-returns-2
 unfolding stepAt
-returns-2 c = record { step = rw (← c .before .before .before .before .before .get-insn .ensures, c .before .before .before .i .given .1, lt-leb _ _ (c .if1 .taken)); registers = tt }
+returns-2 c = record { step = rw (← c .before .before .before .before .before .get-insn .ensures, c .before .before .before .i .given .1, lt-leb _ _ (c .if1 .taken)); registers = tt; hands-on = tt }
 
 returns-3 : tie.Need-returns-3
 unfolding stepAt
-returns-3 c = record { step = rw (← c .before .before .before .before .before .before .before .get-insn .ensures, c .before .before .before .before .before .i .given .1, le-leb _ _ (c .before .before .if1 .left), lt-leb _ _ (c .if2 .taken)); registers = tt }
+returns-3 c = record { step = rw (← c .before .before .before .before .before .before .before .get-insn .ensures, c .before .before .before .before .before .i .given .1, le-leb _ _ (c .before .before .if1 .left), lt-leb _ _ (c .if2 .taken)); registers = tt; hands-on = tt }
 
 kind-in-requires : tie.Need-kind-in-requires
 kind-in-requires c κs = search needs
@@ -49,19 +51,19 @@ enum-known-value c = search needs
 
 returns-4 : tie.Need-returns-4
 unfolding stepAt
-returns-4 c = record { step = rw (← c .before .before .before .before .before .before .before .before .before .before .get-insn .ensures, c .before .before .before .before .before .before .before .before .i .given .1, le-leb _ _ (c .before .before .before .before .before .if1 .left), le-leb _ _ (c .before .before .before .if2 .left), ← c .before .before .kind-in .ensures, c .enum-told2 .given .1); registers = tt }
+returns-4 c = record { step = rw (← c .before .before .before .before .before .before .before .before .before .before .get-insn .ensures, c .before .before .before .before .before .before .before .before .i .given .1, le-leb _ _ (c .before .before .before .before .before .if1 .left), le-leb _ _ (c .before .before .before .if2 .left), ← c .before .before .kind-in .ensures, c .enum-told2 .given .1); registers = tt; hands-on = tt }
 
 returns-5 : tie.Need-returns-5
 unfolding stepAt
-returns-5 c = record { step = rw (← c .before .before .before .before .before .before .before .before .before .before .get-insn .ensures, c .before .before .before .before .before .before .before .before .i .given .1, le-leb _ _ (c .before .before .before .before .before .if1 .left), le-leb _ _ (c .before .before .before .if2 .left), ← c .before .before .kind-in .ensures, c .enum-told3 .given .1); registers = tt }
+returns-5 c = record { step = rw (← c .before .before .before .before .before .before .before .before .before .before .get-insn .ensures, c .before .before .before .before .before .before .before .before .i .given .1, le-leb _ _ (c .before .before .before .before .before .if1 .left), le-leb _ _ (c .before .before .before .if2 .left), ← c .before .before .kind-in .ensures, c .enum-told3 .given .1); registers = tt; hands-on = tt }
 
 returns-6 : tie.Need-returns-6
 unfolding stepAt
-returns-6 c = record { step = rw (← c .before .before .before .before .before .before .before .before .before .before .before .before .before .before .before .get-insn .ensures, c .before .before .before .before .before .before .before .before .before .before .before .before .before .i .given .1, le-leb _ _ (c .before .before .before .before .before .before .before .before .before .before .if1 .left), le-leb _ _ (c .before .before .before .before .before .before .before .before .if2 .left), ← c .before .before .before .before .before .before .before .kind-in .ensures, c .before .before .before .before .before .known .given .1, ← c .before .before .before .operand-of .ensures, c .before .refusal .given .1); registers = tt }
+returns-6 c = record { step = rw (← c .before .before .before .before .before .before .before .before .before .before .before .before .before .before .before .get-insn .ensures, c .before .before .before .before .before .before .before .before .before .before .before .before .before .i .given .1, le-leb _ _ (c .before .before .before .before .before .before .before .before .before .before .if1 .left), le-leb _ _ (c .before .before .before .before .before .before .before .before .if2 .left), ← c .before .before .before .before .before .before .before .kind-in .ensures, c .before .before .before .before .before .known .given .1, ← c .before .before .before .operand-of .ensures, c .before .refusal .given .1); registers = tt; hands-on = tt }
 
 returns-7 : tie.Need-returns-7
 unfolding stepAt
-returns-7 c = record { step = rw (← c .before .before .before .before .before .before .before .before .before .before .before .before .before .before .before .get-insn .ensures, c .before .before .before .before .before .before .before .before .before .before .before .before .before .i .given .1, le-leb _ _ (c .before .before .before .before .before .before .before .before .before .before .if1 .left), le-leb _ _ (c .before .before .before .before .before .before .before .before .if2 .left), ← c .before .before .before .before .before .before .before .kind-in .ensures, c .before .before .before .before .before .known .given .1, ← c .before .before .before .operand-of .ensures, c .before .value .given .1); registers = (omega (arith, c .before .before .before .before .before .before .before .before .before .before .if1 .left), omega (arith, c .before .before .before .before .before .before .before .before .if2 .left)) }
+returns-7 c = record { step = rw (← c .before .before .before .before .before .before .before .before .before .before .before .before .before .before .before .get-insn .ensures, c .before .before .before .before .before .before .before .before .before .before .before .before .before .i .given .1, le-leb _ _ (c .before .before .before .before .before .before .before .before .before .before .if1 .left), le-leb _ _ (c .before .before .before .before .before .before .before .before .if2 .left), ← c .before .before .before .before .before .before .before .kind-in .ensures, c .before .before .before .before .before .known .given .1, ← c .before .before .before .operand-of .ensures, c .before .value .given .1); registers = (omega (arith, c .before .before .before .before .before .before .before .before .before .before .if1 .left), omega (arith, c .before .before .before .before .before .before .before .before .if2 .left)); hands-on = (sym (c .before .before .before .before .before .before .before .before .before .before .before .before .before .before .before .get-insn .ensures) ∙ c .before .before .before .before .before .before .before .before .before .before .before .before .before .i .given .1, (sym (c .before .before .before .before .before .before .before .kind-in .ensures) ∙ c .before .before .before .before .before .known .given .1, sym (c .before .before .before .operand-of .ensures) ∙ ap operandIs (c .before .value .given .1))) }
 
 pub step-spec : {M : Type 1} → statement M
 step-spec =
