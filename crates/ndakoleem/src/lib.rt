@@ -3,8 +3,8 @@
 ghost use lib.ListN.{length};
 ghost use Rattle.jit.specs.Translation.{Inputs};
 ghost use Rattle.ndakoleem.specs.Exported.{Exported};
+ghost use Rattle.sentences.specs.Enough.{Sentence};
 ghost use Rattle.sentences.specs.Sentences.{sentenceOf};
-ghost use Rattle.words.specs.Text.{Says};
 use jit::Flags;
 use translator::translate::Answer;
 use translator::translate::translate;
@@ -62,7 +62,8 @@ pub extern "C" fn ndakoleem_translate(
     }
 }
 
-// A refusal in words: what `sentence` says of the program, the number and the slot, at the start of `out`, cut where it does not fit.
+// A refusal in words: what `sentence` says of the program, the number and the slot, at the start of `out`, cut where it does not fit; the
+// header's NDAKOLEEM_SENTENCE_ENOUGH is the `sentenceEnough` of `Sentence`, in which it stands whole.
 #[no_mangle]
 pub extern "C" fn ndakoleem_sentence(
     program: &[u8],
@@ -70,7 +71,7 @@ pub extern "C" fn ndakoleem_sentence(
     slot: usize,
     out: &mut [u8],
 ) -> usize
-    ensures { λ r. ⌜ Says (now (out .entry)) (now (out .exit)) 0 r (sentenceOf (now (program .entry)) number slot) ⌝ }
+    ensures { λ r. ⌜ Sentence (now (out .entry)) (now (out .exit)) r (sentenceOf (now (program .entry)) number slot) ⌝ }
 {
     sentences::sentence(program, number, slot, out)
 }

@@ -3,6 +3,7 @@
 ghost use mathlib.Core.Path.{_≡_};
 ghost use Rattle.words.specs.Text.{Says};
 ghost use Rattle.sentences.specs.Sentences.{torn, badRegister, noRoom, targetFrom, badTarget, placeOf, sizeReason, opcodeReason, slotReason, reasonOf, sentenceOf};
+ghost use Rattle.sentences.specs.Enough.{sentenceEnough, Sentence};
 use ebpf::constants::CALL;
 use ebpf::constants::INSN_SIZE;
 use ebpf::insn::Insn;
@@ -10,6 +11,16 @@ use fields::fields_at;
 use words::form::put_form;
 use words::number::extended;
 use words::text::put_text;
+
+// Bytes that hold every sentence: what it takes to lend.
+pub const SENTENCE_ENOUGH: usize = 200;
+
+// The same number, held to the definition's.
+pub fn sentence_enough() -> usize
+    ensures { λ r. ⌜ r ≡ sentenceEnough ⌝ }
+{
+    SENTENCE_ENOUGH
+}
 
 fn put_torn(out: &mut [u8], at: usize, prog: &[u8], slot: usize) -> usize
     ensures { λ r. ⌜ Says (now (out .entry)) (now (out .exit)) at r (torn (now (prog .entry)) slot) ⌝ }
@@ -181,10 +192,10 @@ fn put_reason(out: &mut [u8], at: usize, prog: &[u8], number: u8, slot: usize) -
     put_slot_reason(out, at, prog, number, slot, insn)
 }
 
-// The sentence for refusal `number` at `slot` of `prog`, at the start of `out`, cut where it does not fit. The answer is its length.
-// 200 bytes hold every sentence.
+// The sentence for refusal `number` at `slot` of `prog`, at the start of `out`, cut where it does not fit. The answer is its length, at most
+// SENTENCE_ENOUGH; in so many bytes it stands whole.
 pub fn sentence(prog: &[u8], number: u8, slot: usize, out: &mut [u8]) -> usize
-    ensures { λ r. ⌜ Says (now (out .entry)) (now (out .exit)) 0 r (sentenceOf (now (prog .entry)) number slot) ⌝ }
+    ensures { λ r. ⌜ Sentence (now (out .entry)) (now (out .exit)) r (sentenceOf (now (prog .entry)) number slot) ⌝ }
 {
     let next = put_place(out, 0, number, slot);
     let next = put_reason(out, next, prog, number, slot);

@@ -5,6 +5,7 @@ use mathlib.Core.List.{List, [], _∷_, _++_}
 use Prim.Native.Nat.{ℕ, zero, suc, _+_, _*_, _-_, _/_, _%_, _≤_, _<_, _^_}
 use native.Mathlib.Omega.{arith}
 use lib.Dec.{ltb}
+use lib.ListN.{length, length-append}
 use borrow.Author.Tests.{lt-ltb, le-ltb, ltb-true, ltb-false}
 use mathlib.Core.Bool.{Bool, true, false}
 use native.Mathlib.Nat.{pow-zero, pow-suc, mod-lt, div-lt-iff-lt-mul, div-add-mod'}
@@ -118,6 +119,26 @@ decimal-back n h = read-back 10 (omega arith) (omega arith) 20 n (omega arith)
 pub hex-back : (n : ℕ) → n < 2 ^ 64 → read 16 (hex n) ≡ n
 unfolding hex
 hex-back n h = read-back 16 (omega arith) (omega arith) 16 n (omega arith)
+
+-- A numeral has no more digits than it may have, whatever the number.
+pub numeral-most : (b most n : ℕ) → length (numeral b most n) ≤ most
+numeral-most b zero n = omega arith
+numeral-most b (suc most) n = by (ltb n b) (numeral-most b most (n / b))
+  where
+    by : (t : Bool) → length (numeral b most (n / b)) ≤ most → length (pick t (glyph n ∷ []) (numeral b most (n / b) ++ (glyph (n % b) ∷ []))) ≤ suc most
+    by true h = omega arith
+    by false h = omega (arith, length-append (numeral b most (n / b)) (glyph (n % b) ∷ []))
+
+pub decimal-most : (n : ℕ) → length (decimal n) ≤ 20
+unfolding decimal
+decimal-most n = numeral-most 10 20 n
+
+pub signed-most : (x : ℕ) → length (signed x) ≤ 21
+signed-most x = by (ltb x (2 ^ 63))
+  where
+    by : (t : Bool) → length (pick t (decimal x) (45 ∷ decimal (2 ^ 64 - x))) ≤ 21
+    by true = omega (arith, decimal-most x)
+    by false = omega (arith, decimal-most (2 ^ 64 - x))
 
 -- A 32-bit two's complement number at 64 bits: no sign is lost.
 abbrev pub extended : ℕ → ℕ

@@ -9,8 +9,8 @@ use Prim.Native.Char.{code}
 use Prim.Native.String.{String, [] as none, _∷_ as _⊳_}
 use native.Mathlib.Omega.{arith}
 use lib.Dec.{leb, leb→le}
-use lib.ListN.{length, length-append, take, drop, set, getD, replicate}
-use lib.Seq.{sets, length-sets, set-out, take-set-le, drop-set-lt, drop-cons}
+use lib.ListN.{length, length-append, length-take, take, drop, set, getD, replicate}
+use lib.Seq.{sets, sets-eq, length-sets, set-out, take-at, take-set-le, drop-set-lt, drop-cons}
 use Rattle.base.specs.Lists.{sets-append}
 use Rattle.base.specs.Tests.{true-T, leb-no}
 
@@ -115,3 +115,10 @@ before {l} {at = at} {ys = ys} p = ap (take at) (p .text) ∙ before-sets l ys a
 
 pub behind : {l l′ : List ℕ} {at r : ℕ} {ys : List ℕ} → Says l l′ at r ys → drop (at + length ys) l′ ≡ drop (at + length ys) l
 behind {l} {at = at} {ys = ys} p = ap (drop (at + length ys)) (p .text) ∙ behind-sets l ys at (at + length ys) (omega arith)
+
+-- where there is room, all of the text stands there
+pub stands : {l l′ : List ℕ} {at r : ℕ} {ys : List ℕ} → Says l l′ at r ys → at + length ys ≤ length l → take r l′ ≡ take at l ++ ys
+stands {l} {at = at} {r = r} {ys = ys} p h =
+    let e : r ≡ at + length ys = omega (arith, p .next) in
+    let front : length (take at l ++ ys) ≡ at + length ys = length-append (take at l) ys ∙ rw (length-take at l) (omega arith) in
+    rw (p .text, sets-eq ys l at h, e) (take-at (take at l ++ ys) (drop (at + length ys) l) (at + length ys) front)

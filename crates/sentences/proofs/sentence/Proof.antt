@@ -1,5 +1,6 @@
 use Rattle.words.specs.Text.{then}
 use Rattle.sentences.specs.Sentences.{numberedAs}
+use Rattle.sentences.specs.Enough.{enough, sentenced}
 use borrow.Author.Needs.{needs}
 use Rattle.sentences.proofs.sentence.Statement.{statement}
 use Rattle.sentences.proofs.sentence.Tie as tie
@@ -24,7 +25,9 @@ same-length c = search needs
 
 returns : tie.Need-returns
 unfolding numberedAs
-returns c = then (c .before .before .before .before .before .before .before .before .before .before .before .before .put-place .ensures) (then (c .before .before .before .before .before .before .before .before .put-reason .ensures) (c .before .before .put-form .ensures))
+returns c =
+    sentenced (enough _ _ _)
+    (then (c .before .before .before .before .before .before .before .before .before .before .before .before .put-place .ensures) (then (c .before .before .before .before .before .before .before .before .put-reason .ensures) (c .before .before .put-form .ensures)))
 
 pub sentence-spec : {M : Type 1} → statement M
 sentence-spec =
