@@ -1,1 +1,2 @@
 pub mod Assembler
+pub mod Useless

@@ -1,1 +1,2 @@
 pub mod Intel
+pub mod Useless

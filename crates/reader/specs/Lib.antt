@@ -1,2 +1,3 @@
 pub mod Opcodes
 pub mod Takes
+pub mod Useless
