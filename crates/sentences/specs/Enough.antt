@@ -1,12 +1,12 @@
 -- How long a sentence can become, whatever the program, the number and the slot.
 -- Assumes nothing.
-use mathlib.Core.Path.{_≡_, refl}
+use mathlib.Core.Path.{_≡_, refl, ap}
 use mathlib.Core.Bool.{Bool, true, false}
 use mathlib.Core.List.{List, [], _∷_, _++_}
-use Prim.Native.Nat.{ℕ, _+_, _/_, _%_, _≤_}
+use Prim.Native.Nat.{ℕ, _+_, _/_, _%_, _≤_, _<_}
 use native.Mathlib.Omega.{arith}
 use lib.Dec.{ltb, leb, eqb}
-use lib.ListN.{length, length-append, take}
+use lib.ListN.{length, length-append, length-take, take}
 use Rattle.base.specs.Pick.{pick}
 use Rattle.ebpf.specs.Insn.{readAt}
 use Rattle.ebpf.specs.declared.insn.Insn.{Insn}
@@ -115,3 +115,10 @@ pub record Sentence (l l′ : List ℕ) (r : ℕ) (ys : List ℕ) : Type 0 where
 
 pub sentenced : {l l′ : List ℕ} {r : ℕ} {ys : List ℕ} → length ys ≤ sentenceEnough → Says l l′ 0 r ys → Sentence l l′ r ys
 sentenced h s = record { says = s; short = omega (arith, s .next); whole = λ room. stands s (omega arith) }
+
+-- What it rules out besides other texts: an answer of more bytes; a sentence that is cut in a buffer of so many.
+pub longer : {l l′ : List ℕ} {ys : List ℕ} → Sentence l l′ 201 ys → ⊥
+longer s = omega (arith, s .short)
+
+pub cut : {l l′ : List ℕ} {r : ℕ} {ys : List ℕ} → Sentence l l′ r ys → sentenceEnough ≤ length l → r < length ys → ⊥
+cut {l′ = l′} {r = r} s h g = omega (arith, ap length (s .whole h), length-take r l′)
