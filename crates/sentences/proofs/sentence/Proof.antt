@@ -27,7 +27,8 @@ returns : tie.Need-returns
 unfolding numberedAs
 returns c =
     sentenced (enough _ _ _)
-    (then (c .before .before .before .before .before .before .before .before .before .before .before .before .put-place .ensures) (then (c .before .before .before .before .before .before .before .before .put-reason .ensures) (c .before .before .put-form .ensures)))
+    (then (c .before .before .before .before .before .before .before .before .before .before .before .before .put-place .ensures)
+    (then (c .before .before .before .before .before .before .before .before .put-reason .ensures) (c .before .before .put-form .ensures)))
 
 pub sentence-spec : {M : Type 1} → statement M
 sentence-spec =
