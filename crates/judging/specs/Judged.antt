@@ -9,6 +9,7 @@ use lib.Dec.{leb, leb→le}
 use borrow.Author.Tests.{lt-leb, le-leb}
 use Rattle.base.specs.Pick.{pick}
 use Rattle.base.specs.Tests.{true-T}
+use Rattle.base.specs.declared.Position.{Position}
 use Rattle.base.specs.declared.Slot.{Slot}
 use Rattle.jit.specs.declared.Flags.{Flags}
 use Rattle.jit.specs.declared.Refusal.{Refusal}
@@ -65,7 +66,7 @@ module _ (n page : ℕ) where
 
 -- the parts of what the measuring pass answers
 abbrev endOf : Measured → ℕ
-endOf (Done e j b) = e
+endOf (Done e j b) = e .offset
 endOf (Refused r) = 0
 
 abbrev badOf : Measured → Bad
@@ -81,25 +82,25 @@ module _ (n page start : ℕ) where
   refuses (refused s) e = cc
   refuses (done bs) e = cc
 
-  pub no-room : (w : Walk) {e j : ℕ} {b : Bad} → Done e j b ≡ measuredIs n start w → page < e + epilogueSize
+  pub no-room : (w : Walk) {e : Position} {j : ℕ} {b : Bad} → Done e j b ≡ measuredIs n start w → page < e .offset + epilogueSize
       → Not (Refusal.NoRoom (at n)) ≡ verdictOf n page start w
   no-room (refused s) q h = cc
   no-room (done bs) {e} q h =
-      let d : e ≡ start + size (flat bs) = ap endOf q in
+      let d : e .offset ≡ start + size (flat bs) = ap endOf q in
       rw (← d, lt-leb _ _ h)
 
-  pub bad-jump : (w : Walk) {e j : ℕ} {b : Bad} {s : Slot} → Done e j b ≡ measuredIs n start w → b ≡ At s → e + epilogueSize ≤ page
+  pub bad-jump : (w : Walk) {e : Position} {j : ℕ} {b : Bad} {s : Slot} → Done e j b ≡ measuredIs n start w → b ≡ At s → e .offset + epilogueSize ≤ page
       → Not (Refusal.BadTarget s) ≡ verdictOf n page start w
   bad-jump (refused r) q f h = cc
   bad-jump (done bs) {e} {b = b} q f h =
-      let d : e ≡ start + size (flat bs) = ap endOf q in
+      let d : e .offset ≡ start + size (flat bs) = ap endOf q in
       let x : b ≡ firstBad n 0 bs = ap badOf q in
       rw (← d, le-leb _ _ h, ← x, f)
 
-  pub all-good : (w : Walk) {e j : ℕ} {b : Bad} → Done e j b ≡ measuredIs n start w → b ≡ Nowhere → e + epilogueSize ≤ page
+  pub all-good : (w : Walk) {e : Position} {j : ℕ} {b : Bad} → Done e j b ≡ measuredIs n start w → b ≡ Nowhere → e .offset + epilogueSize ≤ page
       → Good ≡ verdictOf n page start w
   all-good (refused r) q f h = cc
   all-good (done bs) {e} {b = b} q f h =
-      let d : e ≡ start + size (flat bs) = ap endOf q in
+      let d : e .offset ≡ start + size (flat bs) = ap endOf q in
       let x : b ≡ firstBad n 0 bs = ap badOf q in
       rw (← d, le-leb _ _ h, ← x, f)

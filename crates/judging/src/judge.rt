@@ -6,6 +6,7 @@ ghost use Rattle.jit.specs.Translation.{rest};
 ghost use Rattle.judging.specs.Judged.{verdictOf};
 ghost use Rattle.jit.specs.Limits.{longestProgram, longestPage};
 use crate::verdict::Verdict;
+use base::Position;
 use base::Slot;
 use jit::Bad;
 use jit::Refusal;
@@ -14,9 +15,9 @@ use measuring::measure;
 use measuring::measure::Measured;
 
 // `start` is where the first slot's code begins.
-pub fn judge(prog: &[u8], ids: &[u32], addresses: &[u64], page: usize, start: usize) -> Verdict
-    requires { ⌜ (length (now prog) ≤ longestProgram) × ((page ≤ longestPage) × ((start ≤ page) × (length (now ids) ≡ length (now addresses)))) ⌝ }
-    ensures { λ r. ⌜ r ≡ verdictOf (length (now (prog .entry)) / 8) page start (rest (suc (length (now (prog .entry)) / 8)) (now (prog .entry)) (now (ids .entry)) (now (addresses .entry)) page 0 start) ⌝ }
+pub fn judge(prog: &[u8], ids: &[u32], addresses: &[u64], page: usize, start: Position) -> Verdict
+    requires { ⌜ (length (now prog) ≤ longestProgram) × ((page ≤ longestPage) × ((start .offset ≤ page) × (length (now ids) ≡ length (now addresses)))) ⌝ }
+    ensures { λ r. ⌜ r ≡ verdictOf (length (now (prog .entry)) / 8) page (start .offset) (rest (suc (length (now (prog .entry)) / 8)) (now (prog .entry)) (now (ids .entry)) (now (addresses .entry)) page 0 (start .offset)) ⌝ }
 {
     if fits::fits(prog, ids, addresses, page, start) {
         return Verdict::Good;
@@ -24,7 +25,7 @@ pub fn judge(prog: &[u8], ids: &[u32], addresses: &[u64], page: usize, start: us
     match measure::measure(prog, ids, addresses, page, start) {
         Measured::Refused(refusal) => Verdict::Not(refusal),
         Measured::Done { end, bad, .. } => {
-            if page < end + jit::EPILOGUE_SIZE {
+            if page < end.offset + jit::EPILOGUE_SIZE {
                 return Verdict::Not(Refusal::NoRoom(Slot {
                     number: prog.len() / 8,
                 }));

@@ -20,12 +20,12 @@ use Rattle.measuring.specs.declared.measure.Measured.the-variants.{Refus
 -- what measuring the whole answers
 abbrev pub measuredIs : (n start : ℕ) → Walk → Measured
 measuredIs n start (refused r) = Refused r
-measuredIs n start (done bs) = Done (start + size (flat bs)) (1 + length (targetsOf (flat bs))) (firstBad n 0 bs)
+measuredIs n start (done bs) = Done (record { offset = start + size (flat bs) }) (1 + length (targetsOf (flat bs))) (firstBad n 0 bs)
 
 -- and how far it can get
 abbrev pub Within : (n page : ℕ) → Measured → Type 0
 Within n page (Refused r) = Unit {0}
-Within n page (Done end jumps bad) = (end ≤ page) × (jumps ≤ n + 1)
+Within n page (Done end jumps bad) = (end .offset ≤ page) × (jumps ≤ n + 1)
 
 pub record Answers (n page start : ℕ) (w : Walk) (r : Measured) : Type 0 where
   pub answer : r ≡ measuredIs n start w
@@ -81,7 +81,7 @@ module _ {program ids addresses kinds : List ℕ} {page start n slot at jumps : 
       })
 
   pub measuring-ends : length program ≤ 8 * slot
-      → Answers (length program / 8) page start (rest (suc (length program / 8)) program ids addresses page 0 start) (Done at jumps bad)
+      → Answers (length program / 8) page start (rest (suc (length program / 8)) program ids addresses page 0 start) (Done (record { offset = at }) jumps bad)
   measuring-ends h =
       record {
         answer = rw (ends (m .sofar) h, m .sofar .place-is, m .jumps-are, m .bad-is, m .n-is);

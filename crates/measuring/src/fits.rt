@@ -9,6 +9,7 @@ ghost use Rattle.jit.specs.Slots.{targetOf};
 ghost use Rattle.jit.specs.Translation.{helperOf, rest};
 ghost use Rattle.measuring.specs.Fits.{isAddress, goodCall, narrowIf, longIf, Sees, Sure};
 ghost use Rattle.jit.specs.Limits.{longestProgram, longestPage};
+use base::Position;
 use base::Slot;
 use ebpf::insn;
 use ebpf::kind;
@@ -130,13 +131,14 @@ fn look_at(
 const MORE: usize = jit::LONG_SLOT - jit::SHORT_SLOT;
 
 // SHORT_SLOT bytes are kept for each slot, and the epilogue's; what a long slot has beyond them is taken from what the page has beyond these.
-pub fn fits(prog: &[u8], ids: &[u32], addresses: &[u64], page: usize, start: usize) -> bool
-    requires { ⌜ (length (now prog) ≤ longestProgram) × ((page ≤ longestPage) × ((start ≤ page) × (length (now ids) ≡ length (now addresses)))) ⌝ }
-    ensures { λ r. ⌜ Sure (length (now (prog .entry)) / 8) page start (rest (suc (length (now (prog .entry)) / 8)) (now (prog .entry)) (now (ids .entry)) (now (addresses .entry)) page 0 start) r ⌝ }
+pub fn fits(prog: &[u8], ids: &[u32], addresses: &[u64], page: usize, start: Position) -> bool
+    requires { ⌜ (length (now prog) ≤ longestProgram) × ((page ≤ longestPage) × ((start .offset ≤ page) × (length (now ids) ≡ length (now addresses)))) ⌝ }
+    ensures { λ r. ⌜ Sure (length (now (prog .entry)) / 8) page (start .offset) (rest (suc (length (now (prog .entry)) / 8)) (now (prog .entry)) (now (ids .entry)) (now (addresses .entry)) page 0 (start .offset)) r ⌝ }
 {
     let kinds = kind::KINDS;
     let n = prog.len() / 8;
-    let kept = start + jit::SHORT_SLOT * n + jit::EPILOGUE_SIZE;
+    let from = start.offset;
+    let kept = from + jit::SHORT_SLOT * n + jit::EPILOGUE_SIZE;
     if page < kept {
         return false;
     }
@@ -144,24 +146,30 @@ pub fn fits(prog: &[u8], ids: &[u32], addresses: &[u64], page: usize, start: usi
         return false;
     }
     let mut spare = page - kept;
-    let mut slot: usize = 0;
-    while slot < n {
-        match look_at(&kinds, prog, ids, addresses, n, Slot { number: slot }) {
+    let mut slot = Slot { number: 0 };
+    while slot.number < n {
+        match look_at(&kinds, prog, ids, addresses, n, slot) {
             Glance::Doubtful => {
                 return false;
             }
             Glance::Narrow => {
-                slot += 1;
+                slot = Slot {
+                    number: slot.number + 1,
+                };
             }
             Glance::Long => {
                 if spare < MORE {
                     return false;
                 }
                 spare -= MORE;
-                slot += 1;
+                slot = Slot {
+                    number: slot.number + 1,
+                };
             }
             Glance::Wide => {
-                slot += 2;
+                slot = Slot {
+                    number: slot.number + 2,
+                };
             }
         }
     }

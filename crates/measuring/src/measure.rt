@@ -7,6 +7,7 @@ ghost use Rattle.jit.specs.Translation.{goodTarget, orElse, badIn, rest, wideKi
 ghost use Rattle.lengths.specs.Measures.{Measures, targetsIn};
 ghost use Rattle.measuring.specs.Measures.{Answers};
 ghost use Rattle.jit.specs.Limits.{longestProgram, longestPage};
+use base::Position;
 use base::Slot;
 use ebpf::insn::Insn;
 use ebpf::kind;
@@ -26,7 +27,11 @@ pub struct Length {
 
 pub enum Measured {
     Refused(Refusal),
-    Done { end: usize, jumps: usize, bad: Bad },
+    Done {
+        end: Position,
+        jumps: usize,
+        bad: Bad,
+    },
 }
 
 fn slot_length(kind: Kind, slot: Slot, i: Insn, value: u64) -> Length
@@ -90,31 +95,40 @@ pub fn slots_of(kind: Kind) -> usize
 }
 
 // The slots from 0 on, the first one's code at `start`. Entry 0 of the jump tables is the prologue's.
-pub fn measure(prog: &[u8], ids: &[u32], addresses: &[u64], page: usize, start: usize) -> Measured
-    requires { ⌜ (length (now prog) ≤ longestProgram) × ((page ≤ longestPage) × ((start ≤ page) × (length (now ids) ≡ length (now addresses)))) ⌝ }
-    ensures { λ r. ⌜ Answers (length (now (prog .entry)) / 8) page start (rest (suc (length (now (prog .entry)) / 8)) (now (prog .entry)) (now (ids .entry)) (now (addresses .entry)) page 0 start) r ⌝ }
+pub fn measure(
+    prog: &[u8],
+    ids: &[u32],
+    addresses: &[u64],
+    page: usize,
+    start: Position,
+) -> Measured
+    requires { ⌜ (length (now prog) ≤ longestProgram) × ((page ≤ longestPage) × ((start .offset ≤ page) × (length (now ids) ≡ length (now addresses)))) ⌝ }
+    ensures { λ r. ⌜ Answers (length (now (prog .entry)) / 8) page (start .offset) (rest (suc (length (now (prog .entry)) / 8)) (now (prog .entry)) (now (ids .entry)) (now (addresses .entry)) page 0 (start .offset)) r ⌝ }
 {
     let kinds = kind::KINDS;
     let n = prog.len() / 8;
-    let mut slot: usize = 0;
+    let mut slot = Slot { number: 0 };
     let mut at = start;
     let mut jumps: usize = 1;
     let mut bad = Bad::Nowhere;
-    while 8 * slot < prog.len() {
-        let here = Slot { number: slot };
-        match step::step(&kinds, prog, ids, addresses, here) {
+    while 8 * slot.number < prog.len() {
+        match step::step(&kinds, prog, ids, addresses, slot) {
             Stepped::Stop(refusal) => {
                 return Measured::Refused(refusal);
             }
             Stepped::Go(known, i, value) => {
-                let m = slot_length(known, here, i, value);
-                let next = at + m.size;
-                if page < next {
-                    return Measured::Refused(Refusal::NoRoom(here));
+                let m = slot_length(known, slot, i, value);
+                let next = Position {
+                    offset: at.offset + m.size,
+                };
+                if page < next.offset {
+                    return Measured::Refused(Refusal::NoRoom(slot));
                 }
-                bad = note_bad(bad, n, here, m);
+                bad = note_bad(bad, n, slot, m);
                 jumps += m.jumps;
-                slot += slots_of(known);
+                slot = Slot {
+                    number: slot.number + slots_of(known),
+                };
                 at = next;
             }
         }

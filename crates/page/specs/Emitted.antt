@@ -7,4 +7,4 @@ use Rattle.page.specs.declared.JitMemory.{JitMemory}
 
 -- the same borrow (`at-last x l` is the reference x, its pointer and its ghost name with it, at the list l), and the place `size` bytes further
 abbrev pub emitted : JitMemory → ℕ → ℕ → JitMemory
-emitted m word size = record { contents = at-last (m .contents) (sets (now (m .contents)) (m .offset) (le64 word)); offset = m .offset + size }
+emitted m word size = record { contents = at-last (m .contents) (sets (now (m .contents)) (m .offset .offset) (le64 word)); offset = record { offset = m .offset .offset + size } }

@@ -1,5 +1,5 @@
 // The page that is lent, and the place of its next byte: the Rust's `JitMemory` and `emit_bytes!`. Each function that makes, takes or
-// returns one is thin, since it is proved by a walk of its MIR by hand; `store_at`, which does the work on slice and number, is covered.
+// returns one is thin, since it is proved by a walk of its MIR by hand; `store_at`, which does the work on slice and place, is covered.
 // `emit_words` stands above them: its parameters are plain, so whoever calls it needs no walk.
 ghost use mathlib.Core.Path.{_≡_};
 ghost use Prim.Native.Nat.{_+_, _≤_};
@@ -7,14 +7,15 @@ ghost use lib.ListN.{length};
 ghost use lib.Seq.{sets};
 ghost use Rattle.base.specs.Bytes.{le64};
 ghost use Rattle.page.specs.Emitted.{emitted};
+use base::Position;
 
 pub struct JitMemory<'a> {
     pub contents: &'a mut [u8],
-    pub offset: usize,
+    pub offset: Position,
 }
 
 // The borrow goes into the memory, beside the place of the next byte.
-pub fn new<'a>(contents: &'a mut [u8], offset: usize) -> JitMemory<'a>
+pub fn new<'a>(contents: &'a mut [u8], offset: Position) -> JitMemory<'a>
     ensures { λ r. ⌜ (r .contents ≡ contents .entry) × (r .offset ≡ offset) ⌝ }
 {
     JitMemory {
@@ -24,22 +25,22 @@ pub fn new<'a>(contents: &'a mut [u8], offset: usize) -> JitMemory<'a>
 }
 
 // A whole word is stored, and the next byte goes behind the lowest `size` bytes of it.
-fn store_at(contents: &mut [u8], offset: usize, word: u64, size: usize) -> usize
-    requires { ⌜ (offset + 8 ≤ length (now contents)) × (size ≤ 8) ⌝ }
-    ensures { λ r. ⌜ (r ≡ offset + size) × (now (contents .exit) ≡ sets (now (contents .entry)) offset (le64 word)) ⌝ }
+fn store_at(contents: &mut [u8], at: Position, word: u64, size: usize) -> Position
+    requires { ⌜ (at .offset + 8 ≤ length (now contents)) × (size ≤ 8) ⌝ }
+    ensures { λ r. ⌜ (r .offset ≡ at .offset + size) × (now (contents .exit) ≡ sets (now (contents .entry)) (at .offset) (le64 word)) ⌝ }
 {
-    let next = offset + size;
-    emit::bytes::store8(contents, offset, word);
-    next
+    let next = at.offset + size;
+    emit::bytes::store8(contents, at.offset, word);
+    Position { offset: next }
 }
 
 // `emit_bytes!`: the memory is taken apart, and handed back with the same borrow and the next place.
 pub fn emit_bytes<'a>(mem: JitMemory<'a>, word: u64, size: usize) -> JitMemory<'a>
-    requires { ⌜ (mem .offset + 8 ≤ length (now (mem .contents))) × (size ≤ 8) ⌝ }
+    requires { ⌜ (mem .offset .offset + 8 ≤ length (now (mem .contents))) × (size ≤ 8) ⌝ }
     ensures { λ r. ⌜ r ≡ emitted (mem .entry) word size ⌝ }
 {
-    let offset = mem.offset;
-    let next = store_at(&mut *mem.contents, offset, word, size);
+    let at = mem.offset;
+    let next = store_at(&mut *mem.contents, at, word, size);
     JitMemory {
         contents: mem.contents,
         offset: next,
@@ -47,9 +48,9 @@ pub fn emit_bytes<'a>(mem: JitMemory<'a>, word: u64, size: usize) -> JitMemory<'
 }
 
 // Eight bytes, and the lowest `size` bytes of a second word behind them; the answer is the place behind those.
-pub fn emit_words(code: &mut [u8], at: usize, first: u64, second: u64, size: usize) -> usize
-    requires { ⌜ (at + 16 ≤ length (now code)) × (size ≤ 8) ⌝ }
-    ensures { λ r. ⌜ (r ≡ at + 8 + size) × (now (code .exit) ≡ sets (sets (now (code .entry)) at (le64 first)) (at + 8) (le64 second)) ⌝ }
+pub fn emit_words(code: &mut [u8], at: Position, first: u64, second: u64, size: usize) -> Position
+    requires { ⌜ (at .offset + 16 ≤ length (now code)) × (size ≤ 8) ⌝ }
+    ensures { λ r. ⌜ (r .offset ≡ at .offset + 8 + size) × (now (code .exit) ≡ sets (sets (now (code .entry)) (at .offset) (le64 first)) (at .offset + 8) (le64 second)) ⌝ }
 {
     let mem = emit_bytes(emit_bytes(new(code, at), first, 8), second, size);
     mem.offset

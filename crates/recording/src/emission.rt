@@ -23,12 +23,18 @@ pub fn target_of(slot: Slot, distance: u32) -> u32
 }
 
 // The field that ends at `end`, and its target, go into the tables at entry `jumps`; the answer is the next entry.
-fn put_jump(fields: &mut [u32], targets: &mut [u32], end: usize, jumps: usize, target: u32) -> usize
-    requires { ⌜ (jumps < length (now fields)) × ((jumps < length (now targets)) × ((4 ≤ end) × (end < 2 ^ 32))) ⌝ }
-    ensures { λ r. ⌜ Recorded (now (fields .entry)) (now (fields .exit)) (now (targets .entry)) (now (targets .exit)) end jumps end r target ⌝ }
+fn put_jump(
+    fields: &mut [u32],
+    targets: &mut [u32],
+    end: Position,
+    jumps: usize,
+    target: u32,
+) -> usize
+    requires { ⌜ (jumps < length (now fields)) × ((jumps < length (now targets)) × ((4 ≤ end .offset) × (end .offset < 2 ^ 32))) ⌝ }
+    ensures { λ r. ⌜ Recorded (now (fields .entry)) (now (fields .exit)) (now (targets .entry)) (now (targets .exit)) (end .offset) jumps (end .offset) r target ⌝ }
 {
     let next = jumps + 1;
-    fields[jumps] = (end - 4) as u32;
+    fields[jumps] = (end.offset - 4) as u32;
     targets[jumps] = target;
     next
 }
@@ -38,7 +44,7 @@ pub fn note_jump(state: &mut Emission, fields: &mut [u32], targets: &mut [u32], 
     requires { ⌜ (now state .jumps < length (now fields)) × ((now state .jumps < length (now targets)) × ((4 ≤ now state .at .offset) × (now state .at .offset < 2 ^ 32))) ⌝ }
     ensures { λ _. ⌜ Recorded (now (fields .entry)) (now (fields .exit)) (now (targets .entry)) (now (targets .exit)) (now (state .entry) .at .offset) (now (state .entry) .jumps) (now (state .exit) .at .offset) (now (state .exit) .jumps) target ⌝ }
 {
-    let end = state.at.offset;
+    let end = state.at;
     let jumps = state.jumps;
     let next = put_jump(fields, targets, end, jumps, target);
     state.jumps = next;

@@ -1,45 +1,56 @@
 // `resolve_jumps` of the Rust: each recorded field gets its value.
 ghost use mathlib.Core.Path.{_≡_};
-ghost use Prim.Native.Nat.{ℕ, _+_, _≤_, _<_};
+ghost use Prim.Native.Nat.{ℕ, _+_, _≤_, _<_, _^_};
 ghost use lib.ListN.{length, take, getD};
 ghost use Rattle.x86.specs.Fill.{filled};
 ghost use Rattle.jit.specs.Translation.{placeOf};
+use base::Position;
+use base::Slot;
 
 // Where a target lies: the exit, or its location, which is looked up among 0 to n.
-fn location(locations: &[u32], n: usize, exit: u32, target: u32) -> u32
-    requires { ⌜ n < length (now locations) ⌝ }
-    ensures { λ r. ⌜ r ≡ placeOf (take (n + 1) (now (locations .entry))) exit target ⌝ }
+fn location(locations: &[u32], n: Slot, exit: Position, target: u32) -> Position
+    requires { ⌜ (n .number < length (now locations)) × (exit .offset < 2 ^ 32) ⌝ }
+    ensures { λ r. ⌜ (r .offset ≡ placeOf (take (n .number + 1) (now (locations .entry))) (exit .offset) target) × (r .offset < 2 ^ 32) ⌝ }
 {
     if target == jit::ANCHOR {
         return exit;
     }
-    let slot = target as usize;
-    if slot <= n {
-        return locations[slot];
+    let slot = Slot {
+        number: target as usize,
+    };
+    let number = slot.number;
+    if number <= n.number {
+        return Position {
+            offset: locations[number] as usize,
+        };
     }
-    0
+    Position { offset: 0 }
 }
 
 // The field holds its location minus the field's end, modulo 2 ^ 32, low byte first.
 pub fn resolve_jumps(
     code: &mut [u8],
     locations: &[u32],
-    n: usize,
+    n: Slot,
     fields: &[u32],
     targets: &[u32],
-    exit: u32,
+    exit: Position,
     count: usize,
 )
-    requires { ⌜ (n < length (now locations)) × ((count ≤ length (now fields)) × (count ≤ length (now targets))) ⌝ }
+    requires { ⌜ (n .number < length (now locations)) × ((exit .offset < 2 ^ 32) × ((count ≤ length (now fields)) × (count ≤ length (now targets)))) ⌝ }
     requires { ⌜ ((k : ℕ) → k < count → getD (now fields) k 0 + 4 ≤ length (now code)) ⌝ }
-    ensures { λ _. ⌜ now (code .exit) ≡ filled (placeOf (take (n + 1) (now (locations .entry))) exit) (take count (now (fields .entry))) (take count (now (targets .entry))) (now (code .entry)) ⌝ }
+    ensures { λ _. ⌜ now (code .exit) ≡ filled (placeOf (take (n .number + 1) (now (locations .entry))) (exit .offset)) (take count (now (fields .entry))) (take count (now (targets .entry))) (now (code .entry)) ⌝ }
 {
     let mut k: usize = 0;
     while k < count {
         let field = fields[k];
         let place = location(locations, n, exit, targets[k]);
+        let to = place.offset as u32;
         let end = std::num::wrapping_add_u32(field, 4);
-        emit::bytes::store4(code, field as usize, std::num::wrapping_sub_u32(place, end));
+        let at = Position {
+            offset: field as usize,
+        };
+        emit::bytes::store4(code, at.offset, std::num::wrapping_sub_u32(to, end));
         k += 1;
     }
 }

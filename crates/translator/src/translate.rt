@@ -8,6 +8,8 @@ ghost use Rattle.jit.specs.Translation.{Inputs, rest, translationOf};
 ghost use Rattle.writing.specs.Writes.{Fitting};
 ghost use Rattle.translator.specs.Translated.{Begun, Ended, Translated};
 ghost use Rattle.jit.specs.Limits.{shortestPage, longestProgram, longestPage, longestPrologue, epilogueSize};
+use base::Position;
+use base::Slot;
 use jit::Flags;
 use jit::Refusal;
 use judging::judge;
@@ -39,16 +41,16 @@ fn write_begin(
     ids: &[u32],
     addresses: &[u64],
     page: usize,
-    start: usize,
+    start: Position,
     code: &mut [u8],
     locations: &mut [u32],
     fields: &mut [u32],
     targets: &mut [u32],
 ) -> Emission
-    requires { ⌜ (length (now prog) ≤ longestProgram) × ((page ≤ longestPage) × ((start ≤ page) × (length (now ids) ≡ length (now addresses)))) ⌝ }
-    requires { ⌜ Fitting (rest (suc (length (now prog) / 8)) (now prog) (now ids) (now addresses) page 0 start) page start (now code) (now locations) (now fields) (now targets) (length (now prog) / 8) ⌝ }
-    requires { ⌜ (start ≡ size (prologue flags)) × ((start ≤ longestPrologue) × (shortestPage ≤ page)) ⌝ }
-    ensures { λ r. ⌜ Begun (rest (suc (length (now (prog .entry)) / 8)) (now (prog .entry)) (now (ids .entry)) (now (addresses .entry)) page 0 start) flags (now (code .entry)) (now (code .exit)) (now (locations .entry)) (now (locations .exit)) (now (fields .entry)) (now (fields .exit)) (now (targets .entry)) (now (targets .exit)) (r .at .offset) (r .jumps) ⌝ }
+    requires { ⌜ (length (now prog) ≤ longestProgram) × ((page ≤ longestPage) × ((start .offset ≤ page) × (length (now ids) ≡ length (now addresses)))) ⌝ }
+    requires { ⌜ Fitting (rest (suc (length (now prog) / 8)) (now prog) (now ids) (now addresses) page 0 (start .offset)) page (start .offset) (now code) (now locations) (now fields) (now targets) (length (now prog) / 8) ⌝ }
+    requires { ⌜ (start .offset ≡ size (prologue flags)) × ((start .offset ≤ longestPrologue) × (shortestPage ≤ page)) ⌝ }
+    ensures { λ r. ⌜ Begun (rest (suc (length (now (prog .entry)) / 8)) (now (prog .entry)) (now (ids .entry)) (now (addresses .entry)) page 0 (start .offset)) flags (now (code .entry)) (now (code .exit)) (now (locations .entry)) (now (locations .exit)) (now (fields .entry)) (now (fields .exit)) (now (targets .entry)) (now (targets .exit)) (r .at .offset) (r .jumps) ⌝ }
 {
     writing::frame::emit_prologue(code, fields, targets, flags);
     writing::write::write_slots(
@@ -70,17 +72,18 @@ fn write_end(
     locations: &mut [u32],
     fields: &[u32],
     targets: &[u32],
-    n: usize,
-    end: usize,
+    n: Slot,
+    end: Position,
     jumps: usize,
 )
-    requires { ⌜ (end + epilogueSize ≤ length (now code)) × ((length (now code) ≤ longestPage) × ((n < length (now locations)) × ((jumps ≤ length (now fields)) × (jumps ≤ length (now targets))))) ⌝ }
+    requires { ⌜ (end .offset + epilogueSize ≤ length (now code)) × ((length (now code) ≤ longestPage) × ((n .number < length (now locations)) × ((jumps ≤ length (now fields)) × (jumps ≤ length (now targets))))) ⌝ }
     requires { ⌜ ((k : ℕ) → k < jumps → getD (now fields) k 0 + 4 ≤ length (now code)) ⌝ }
-    ensures { λ _. ⌜ Ended n end jumps (now (code .entry)) (now (code .exit)) (now (locations .entry)) (now (locations .exit)) (now (fields .entry)) (now (targets .entry)) ⌝ }
+    ensures { λ _. ⌜ Ended (n .number) (end .offset) jumps (now (code .entry)) (now (code .exit)) (now (locations .entry)) (now (locations .exit)) (now (fields .entry)) (now (targets .entry)) ⌝ }
 {
     writing::frame::emit_epilogue(code, end);
-    locations[n] = 0;
-    resolving::resolve::resolve_jumps(code, locations, n, fields, targets, end as u32, jumps);
+    let last = n.number;
+    locations[last] = 0;
+    resolving::resolve::resolve_jumps(code, locations, n, fields, targets, end, jumps);
 }
 
 // The answer and the contents at exit of what is lent are what `translationOf` gives on the contents at entry (specs/Translated.antt): accepted,
@@ -98,7 +101,9 @@ pub fn translate(
     ensures { λ r. ⌜ Translated (translationOf (record { program = now (prog .entry); flags = flags; ids = now (ids .entry); addresses = now (addresses .entry); page = length (now (code .entry)); locations = length (now (locations .entry)); fields = length (now (fields .entry)); targets = length (now (targets .entry)) })) (now (code .entry)) (now (code .exit)) (now (locations .entry)) (now (locations .exit)) (now (fields .entry)) (now (fields .exit)) (now (targets .entry)) (now (targets .exit)) r ⌝ }
 {
     let page = code.len();
-    let n = prog.len() / 8;
+    let n = Slot {
+        number: prog.len() / 8,
+    };
     match sizes::sizes(
         prog.len(),
         page,
@@ -110,7 +115,9 @@ pub fn translate(
     ) {
         Verdict::Not(for_sizes) => Answer::Refused(for_sizes),
         Verdict::Good => {
-            let start = prologue_size(flags);
+            let start = Position {
+                offset: prologue_size(flags),
+            };
             match judge::judge(prog, ids, addresses, page, start) {
                 Verdict::Not(for_slots) => Answer::Refused(for_slots),
                 Verdict::Good => {
@@ -126,9 +133,9 @@ pub fn translate(
                         fields,
                         targets,
                     );
-                    let end = e.at.offset;
+                    let end = e.at;
                     write_end(code, locations, fields, targets, n, end, e.jumps);
-                    let length = end + jit::EPILOGUE_SIZE;
+                    let length = end.offset + jit::EPILOGUE_SIZE;
                     Answer::Accepted {
                         length: length,
                         jumps: e.jumps,

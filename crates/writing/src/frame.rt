@@ -17,12 +17,11 @@ use recording::emission;
 use recording::emission::Emission;
 
 // What the caller keeps, push rbp, rbx, r13, r14, r15, which is one word; and the packet's address, mov r10, rdx.
-fn emit_saves(code: &mut [u8], at: usize) -> Position
-    requires { ⌜ at + size (saves ++ keepPacket) + 16 ≤ length (now code) ⌝ }
-    ensures { λ r. ⌜ Wrote (now (code .entry)) (now (code .exit)) at (r .offset) (blanks (saves ++ keepPacket)) ⌝ }
+fn emit_saves(code: &mut [u8], at: Position) -> Position
+    requires { ⌜ at .offset + size (saves ++ keepPacket) + 16 ≤ length (now code) ⌝ }
+    ensures { λ r. ⌜ Wrote (now (code .entry)) (now (code .exit)) (at .offset) (r .offset) (blanks (saves ++ keepPacket)) ⌝ }
 {
-    let next = page::emit_words(code, at, 0x5741564155415355, 0xd28949, 3);
-    Position { offset: next }
+    page::emit_words(code, at, 0x5741564155415355, 0xd28949, 3)
 }
 
 // The packet's address goes into the buffer, at RDI + R8.
@@ -80,7 +79,7 @@ pub fn emit_prologue(
     requires { ⌜ Room (now code) (now fields) (now targets) 0 0 (prologue flags) ⌝ }
     ensures { λ r. ⌜ Emits (now (code .entry)) (now (code .exit)) (now (fields .entry)) (now (fields .exit)) (now (targets .entry)) (now (targets .exit)) 0 0 (r .at .offset) (r .jumps) (prologue flags) ⌝ }
 {
-    let saved = emit_saves(code, 0);
+    let saved = emit_saves(code, Position { offset: 0 });
     let argued = emit_argument(code, saved, flags);
     emit_enter(
         code,
@@ -94,9 +93,9 @@ pub fn emit_prologue(
 }
 
 // Sixteen bytes in two words, and none behind them: add rsp, 512; pop r15, r14, r13, rbx, rbp; ret.
-pub fn emit_epilogue(code: &mut [u8], at: usize)
-    requires { ⌜ at + epilogueSize ≤ length (now code) ⌝ }
-    ensures { λ _. ⌜ now (code .exit) ≡ sets (now (code .entry)) at (blanks epilogue) ⌝ }
+pub fn emit_epilogue(code: &mut [u8], at: Position)
+    requires { ⌜ at .offset + epilogueSize ≤ length (now code) ⌝ }
+    ensures { λ _. ⌜ now (code .exit) ≡ sets (now (code .entry)) (at .offset) (blanks epilogue) ⌝ }
 {
     page::emit_words(code, at, 0x4100000200c48148, 0xc35d5b5d415e415f, 8);
 }

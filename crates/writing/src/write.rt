@@ -15,16 +15,17 @@ use ebpf::kind;
 use recording::emission::Emission;
 
 // A slot's location entries: its place, and 0 for a second half, which is number 4's alone. The answer is the next slot.
-fn put_slot(locations: &mut [u32], slot: usize, at: usize, number: u8) -> usize
-    requires { ⌜ (slot + slotsWide (eqb number 4) ≤ length (now locations)) × ((at < 2 ^ 32) × (slot < 2 ^ 16)) ⌝ }
-    ensures { λ r. ⌜ (Put (now (locations .entry)) (now (locations .exit)) slot r (entries at (eqb number 4))) × (r ≡ slot + slotsWide (eqb number 4)) ⌝ }
+fn put_slot(locations: &mut [u32], slot: Slot, at: Position, number: u8) -> Slot
+    requires { ⌜ (slot .number + slotsWide (eqb number 4) ≤ length (now locations)) × ((at .offset < 2 ^ 32) × (slot .number < 2 ^ 16)) ⌝ }
+    ensures { λ r. ⌜ (Put (now (locations .entry)) (now (locations .exit)) (slot .number) (r .number) (entries (at .offset) (eqb number 4))) × (r .number ≡ slot .number + slotsWide (eqb number 4)) ⌝ }
 {
-    locations[slot] = at as u32;
+    let first = slot.number;
+    locations[first] = at.offset as u32;
     if number == 4 {
-        locations[slot + 1] = 0;
-        return slot + 2;
+        locations[first + 1] = 0;
+        return Slot { number: first + 2 };
     }
-    slot + 1
+    Slot { number: first + 1 }
 }
 
 // The slots of a program that is accepted, the first one's code at `start`. The answer is where they end, and how many jumps are listed.
@@ -33,25 +34,24 @@ pub fn write_slots(
     ids: &[u32],
     addresses: &[u64],
     page: usize,
-    start: usize,
+    start: Position,
     code: &mut [u8],
     locations: &mut [u32],
     fields: &mut [u32],
     targets: &mut [u32],
 ) -> Emission
-    requires { ⌜ (length (now prog) ≤ longestProgram) × ((page ≤ longestPage) × ((start ≤ page) × (length (now ids) ≡ length (now addresses)))) ⌝ }
-    requires { ⌜ Fitting (rest (suc (length (now prog) / 8)) (now prog) (now ids) (now addresses) page 0 start) page start (now code) (now locations) (now fields) (now targets) (length (now prog) / 8) ⌝ }
-    ensures { λ r. ⌜ Writes (rest (suc (length (now (prog .entry)) / 8)) (now (prog .entry)) (now (ids .entry)) (now (addresses .entry)) page 0 start) start (now (code .entry)) (now (code .exit)) (now (locations .entry)) (now (locations .exit)) (now (fields .entry)) (now (fields .exit)) (now (targets .entry)) (now (targets .exit)) (r .at .offset) (r .jumps) ⌝ }
+    requires { ⌜ (length (now prog) ≤ longestProgram) × ((page ≤ longestPage) × ((start .offset ≤ page) × (length (now ids) ≡ length (now addresses)))) ⌝ }
+    requires { ⌜ Fitting (rest (suc (length (now prog) / 8)) (now prog) (now ids) (now addresses) page 0 (start .offset)) page (start .offset) (now code) (now locations) (now fields) (now targets) (length (now prog) / 8) ⌝ }
+    ensures { λ r. ⌜ Writes (rest (suc (length (now (prog .entry)) / 8)) (now (prog .entry)) (now (ids .entry)) (now (addresses .entry)) page 0 (start .offset)) (start .offset) (now (code .entry)) (now (code .exit)) (now (locations .entry)) (now (locations .exit)) (now (fields .entry)) (now (fields .exit)) (now (targets .entry)) (now (targets .exit)) (r .at .offset) (r .jumps) ⌝ }
 {
     let kinds = kind::KINDS;
-    let mut next: usize = 0;
+    let mut next = Slot { number: 0 };
     let mut e = Emission {
-        at: Position { offset: start },
+        at: start,
         jumps: 1,
     };
-    while 8 * next < prog.len() {
-        let here = Slot { number: next };
-        let i = insn::insn_at(prog, here);
+    while 8 * next.number < prog.len() {
+        let i = insn::insn_at(prog, next);
         let number = kind::number_in(&kinds, i.opc);
         let at = e.at;
         e = slot::emit_slot(
@@ -60,13 +60,13 @@ pub fn write_slots(
             targets,
             e,
             number,
-            here,
+            next,
             i,
             prog,
             ids,
             addresses,
         );
-        next = put_slot(locations, next, at.offset, number);
+        next = put_slot(locations, next, at, number);
     }
     e
 }

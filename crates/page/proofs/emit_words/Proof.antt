@@ -43,10 +43,14 @@ use denote.Triple.Walked.{says, needs, Stays, stay-none, stay-slice, walkOf, goe
 use denote.Exit.{yes}
 use denote.Signature.{plain}
 use Rattle.base.specs.Bytes.{le64}
+use Rattle.base.specs.declared.Position.{Position}
+use Rattle.base.proofs.Position as P
+use Rattle.base.proofs.Position.Laws as P′
 use Rattle.page.specs.declared.JitMemory.{JitMemory}
 use Rattle.page.specs.Emitted.{emitted}
 use Rattle.page.proofs.JitMemory as T
 use Rattle.page.proofs.JitMemory.Laws as T′
+use Rattle.page.proofs.Place.{place, place-mach, is-place, knows-place}
 use Rattle.page.proofs.new as new
 use Rattle.page.proofs.new.Symbol as new-def
 use Rattle.page.proofs.new.Symbol.{name as #page·new}
@@ -61,7 +65,7 @@ use Rattle.page.proofs.emit_words.Statement as stated
 use Rattle.page.proofs.emit_words.Code as code
 
 abbrev stayed : Stays (emit-words.ended .signature .params) (emit-words.ended .kept)
-stayed = (stay-slice (0 ∷ []) tt (plain (λ _. u8)), (stay-none (λ _. usize) yes, (stay-none (λ _. u64) yes, (stay-none (λ _. u64) yes, (stay-none (λ _. usize) yes, tt)))))
+stayed = (stay-slice (0 ∷ []) tt (plain (λ _. u8)), (stay-none (λ _. P.the-row) yes, (stay-none (λ _. u64) yes, (stay-none (λ _. u64) yes, (stay-none (λ _. usize) yes, tt)))))
 
 module _ {M : Type 1} (𝓤 : URA M) (H : Heap 𝓤) (A : Atoms 𝓤) (mem : Memory → SProp 𝓤) (run : Routine → Fun 𝓤) where
   -- the contracts that the proof cites
@@ -72,7 +76,7 @@ module _ {M : Type 1} (𝓤 : URA M) (H : Heap 𝓤) (A : Atoms 𝓤) (mem : Mem
   Emit = tripleOf 𝓤 H A emit-bytes.signature (emit-bytes.spec 𝓤 H A mem run)
 
   -- of their `ensured`, the clause alone: neither has a last value
-  new-of : (κ : Lft) (x : RefT (List ℕ)) (n : ℕ) (r : JitMemory) → ent 𝓤 (ensured 𝓤 H A new.ended (new.clauses 𝓤 H A mem run) (κ, tt) (x, (n, tt)) tt r) (fact 𝓤 ((r .contents ≡ x) × (r .offset ≡ n)))
+  new-of : (κ : Lft) (x : RefT (List ℕ)) (n : Position) (r : JitMemory) → ent 𝓤 (ensured 𝓤 H A new.ended (new.clauses 𝓤 H A mem run) (κ, tt) (x, (n, tt)) tt r) (fact 𝓤 ((r .contents ≡ x) × (r .offset ≡ n)))
   new-of κ x n r = exE 𝓤 _ (λ ws. snd∗ 𝓤 (sem 𝓤 H A (lasts new.ended (κ, tt) (x, (n, tt)) ws)) (fact 𝓤 ((r .contents ≡ x) × (r .offset ≡ n))))
 
   emit-of : (κ : Lft) (h : JitMemory) (v z : ℕ) (r : JitMemory) → ent 𝓤 (ensured 𝓤 H A emit-bytes.ended (emit-bytes.clauses 𝓤 H A mem run) (κ, tt) (h, (v, (z, tt))) tt r) (fact 𝓤 (r ≡ emitted h v z))
@@ -91,7 +95,7 @@ module _ {M : Type 1} (𝓤 : URA M) (H : Heap 𝓤) (A : Atoms 𝓤) (W : Given
 
   -- the memory that `new` returns, and those that `emit_bytes` returns
   abbrev h₀ : JitMemory
-  h₀ = record { contents = x ys; offset = n }
+  h₀ = record { contents = x ys; offset = place n }
 
   abbrev h₁ : JitMemory
   h₁ = emitted h₀ u 8
@@ -104,7 +108,7 @@ module _ {M : Type 1} (𝓤 : URA M) (H : Heap 𝓤) (A : Atoms 𝓤) (W : Given
   zs = sets (sets ys n (le64 u)) (n + 8) (le64 v)
 
   abbrev mach : Val
-  mach = vstruct (vcons (sliceVal (b, o) (length zs)) (vcons (vint w64 (n + 8 + z)) vnil))
+  mach = vstruct (vcons (sliceVal (b, o) (length zs)) (vcons (place-mach (n + 8 + z)) vnil))
 
   as-long : length zs ≡ length ys
   as-long = length-sets (sets ys n (le64 u)) (n + 8) (le64 v) ∙ length-sets ys n (le64 u)
@@ -119,56 +123,56 @@ module _ {M : Type 1} (𝓤 : URA M) (H : Heap 𝓤) (A : Atoms 𝓤) (W : Given
   typed : (h : JitMemory) (w : Val) → Is (T.the-row α) h (w ∷ []) → Holds (hasTy (T′.mir erased) w) × WT w
   typed h w is =
       let fields = LL.owed (T.the-type α) (T′.the-laws α) h _ is in
-      subst (λ (y : Val). Holds (hasTy (T′.mir erased) y) × WT y) (sym (ap only (LL.tells (T.the-type α) (T′.the-laws α) h _ is))) (tt, ((tt, (record { fits = fields .0 .0 .1 .0 }, tt)), (record { fits = fields .1 .0 .1 }, tt)))
+      subst (λ (y : Val). Holds (hasTy (T′.mir erased) y) × WT y) (sym (ap only (LL.tells (T.the-type α) (T′.the-laws α) h _ is))) (tt, ((tt, (record { fits = fields .0 .0 .1 .0 }, tt)), ((record { fits = knows-place _ _ (fields .1 .0) }, tt), tt)))
 
   abbrev Arg : Type 0
-  Arg = RefT (List ℕ) × (ℕ × (ℕ × (ℕ × (ℕ × Unit {0}))))
+  Arg = RefT (List ℕ) × (Position × (ℕ × (ℕ × (ℕ × Unit {0}))))
 
   abbrev a : Arg
-  a = (x ys, (n, (u, (v, (z, tt)))))
+  a = (x ys, (place n, (u, (v, (z, tt)))))
 
   abbrev vals : List Val × (List Val × (List Val × (List Val × (List Val × Unit {0}))))
-  vals = (s ∷ [], (vint w64 n ∷ [], (vint w64 u ∷ [], (vint w64 v ∷ [], (vint w64 z ∷ [], tt)))))
+  vals = (s ∷ [], (place-mach n ∷ [], (vint w64 u ∷ [], (vint w64 v ∷ [], (vint w64 z ∷ [], tt)))))
 
   abbrev Post : Val → SProp 𝓤
   Post = walkOf 𝓤 H A emit-words.ended stayed (emit-words.clauses 𝓤 H A mem run) .post (((κ, tt), (q, tt), tt, a, vals), tt)
 
   -- what each callee's triple binds outside, and that the caller has what it asks
   abbrev to-new : New 𝓤 H A mem run .Ghost
-  to-new = (((κ, tt), (q, tt), tt, (x ys, (n, tt)), (s ∷ [], (vint w64 n ∷ [], tt))), tt)
+  to-new = (((κ, tt), (q, tt), tt, (x ys, (place n, tt)), (s ∷ [], (place-mach n ∷ [], tt))), tt)
 
   goes-new : ent 𝓤 (sep 𝓤 (sep 𝓤 (A .lft κ q) (sem 𝓤 H A ftrue)) (sem 𝓤 H A (MutSlice (named 0) κ u8 .own (x ys) (s ∷ [])))) (New 𝓤 H A mem run .pre to-new)
-  goes-new = qed W ((‵ (flft κ q) ⊛ ‵ ftrue) ∷ ‵ (MutSlice (named 0) κ u8 .own (x ys) (s ∷ [])) ∷ []) ∵ nothing ! $ owned ! usize (Is usize) (uint-makes 𝓤 H A W w64) n _ (refl, n-fits) $ fjoin ! $ move ! (2 ∷ 0 ∷ []) $ fjoin ! $ move ! (1 ∷ 0 ∷ []) $ join ! $ frame ! $ done !
+  goes-new = qed W ((‵ (flft κ q) ⊛ ‵ ftrue) ∷ ‵ (MutSlice (named 0) κ u8 .own (x ys) (s ∷ [])) ∷ []) ∵ nothing ! $ owned ! P.the-row (Is P.the-row) (LL.makes P.the-type P′.the-plain 𝓤 H A) (place n) _ (is-place n n-fits) $ fjoin ! $ move ! (2 ∷ 0 ∷ []) $ fjoin ! $ move ! (1 ∷ 0 ∷ []) $ join ! $ frame ! $ done !
 
   abbrev to-emit : JitMemory → ℕ → ℕ → Val → Emit 𝓤 H A mem run .Ghost
   to-emit h d k w = (((κ, tt), (q, tt), tt, (h, (d, (k, tt))), (w ∷ [], (vint w64 d ∷ [], (vint w64 k ∷ [], tt)))), tt)
 
-  goes-emit : (h : JitMemory) (d k : ℕ) → d < 2 ^ 64 → k < 2 ^ 64 → (h .offset + 8 ≤ length (now (h .contents))) × (k ≤ 8)
+  goes-emit : (h : JitMemory) (d k : ℕ) → d < 2 ^ 64 → k < 2 ^ 64 → (h .offset .offset + 8 ≤ length (now (h .contents))) × (k ≤ 8)
       → (w : Val) → ent 𝓤 (sep 𝓤 (sep 𝓤 (A .lft κ q) (sem 𝓤 H A ftrue)) (sem 𝓤 H A (T.the-row α .own h (w ∷ [])))) (Emit 𝓤 H A mem run .pre (to-emit h d k w))
   goes-emit h d k d-fits k-fits room w =
       qed W ((‵ (flft κ q) ⊛ ‵ ftrue) ∷ ‵ (T.the-row α .own h (w ∷ [])) ∷ []) ∵ says ! room $ frame ! $
       nothing ! $ owned ! usize (Is usize) (uint-makes 𝓤 H A W w64) k _ (refl, k-fits) $ fjoin ! $ owned ! u64 (Is u64) (uint-makes 𝓤 H A W w64) d _ (refl, d-fits) $ fjoin ! $ move ! (1 ∷ 0 ∷ []) $ fjoin ! $ done !
 
-  exits : n + 8 + z < 2 ^ 64 → ent 𝓤 (sep 𝓤 (sep 𝓤 (A .lft κ q) (sem 𝓤 H A ftrue)) (sep 𝓤 (sem 𝓤 H A (MutSlice (named 0) κ u8 .own (x zs) (s ∷ []))) (sem 𝓤 H A (owns (usize ∷ u64 ∷ u64 ∷ usize ∷ []) (a .1) (vals .1))))) (Post (vint w64 (n + 8 + z)))
+  exits : n + 8 + z < 2 ^ 64 → ent 𝓤 (sep 𝓤 (sep 𝓤 (A .lft κ q) (sem 𝓤 H A ftrue)) (sep 𝓤 (sem 𝓤 H A (MutSlice (named 0) κ u8 .own (x zs) (s ∷ []))) (sem 𝓤 H A (owns (P.the-row ∷ u64 ∷ u64 ∷ usize ∷ []) (a .1) (vals .1))))) (Post (place-mach (n + 8 + z)))
   exits fits =
-      qed W ((‵ (flft κ q) ⊛ ‵ ftrue) ∷ ‵ (MutSlice (named 0) κ u8 .own (x zs) (s ∷ [])) ∷ ‵ (owns (usize ∷ u64 ∷ u64 ∷ usize ∷ []) (a .1) (vals .1)) ∷ []) ∵
-      suffices ! _ (ends-at 𝓤 H A emit-words.ended stayed (emit-words.clauses 𝓤 H A mem run) W (((κ, tt), (q, tt), tt, a, vals), tt) (vint w64 (n + 8 + z)) (n + 8 + z) (zs, (tt, (tt, (tt, (tt, tt))))) (as-long, (tt, (tt, (tt, (tt, tt)))))) $ says ! (refl, refl) $
-      frame ! $ fjoin ! $ frame ! $ owned ! usize (Is usize) (uint-makes 𝓤 H A W w64) (n + 8 + z) _ (refl, fits) $ done !
+      qed W ((‵ (flft κ q) ⊛ ‵ ftrue) ∷ ‵ (MutSlice (named 0) κ u8 .own (x zs) (s ∷ [])) ∷ ‵ (owns (P.the-row ∷ u64 ∷ u64 ∷ usize ∷ []) (a .1) (vals .1)) ∷ []) ∵
+      suffices ! _ (ends-at 𝓤 H A emit-words.ended stayed (emit-words.clauses 𝓤 H A mem run) W (((κ, tt), (q, tt), tt, a, vals), tt) (place-mach (n + 8 + z)) (place (n + 8 + z)) (zs, (tt, (tt, (tt, (tt, tt))))) (as-long, (tt, (tt, (tt, (tt, tt)))))) $ says ! (refl, refl) $
+      frame ! $ fjoin ! $ frame ! $ owned ! P.the-row (Is P.the-row) (LL.makes P.the-type P′.the-plain 𝓤 H A) (place (n + 8 + z)) _ (is-place (n + 8 + z) fits) $ done !
 
   module _ (C : Calls 𝓤 H) (Λ : Loops 𝓤 H) (fm : FmC 𝓤 H (W .laws) C) (known-new : Triple 𝓤 (C #page·new) (New 𝓤 H A mem run)) (known-emit : Triple 𝓤 (C #page·emit-bytes) (Emit 𝓤 H A mem run)) where
-    walk : Room u8 (length ys) → ent 𝓤 (onEntry 𝓤 H A emit-words.signature (κ, tt) (q, tt) a vals) (WpFn 𝓤 H C Λ code.function (s ∷ vint w64 n ∷ vint w64 u ∷ vint w64 v ∷ vint w64 z ∷ []) Post)
+    walk : Room u8 (length ys) → ent 𝓤 (onEntry 𝓤 H A emit-words.signature (κ, tt) (q, tt) a vals) (WpFn 𝓤 H C Λ code.function (s ∷ place-mach n ∷ vint w64 u ∷ vint w64 v ∷ vint w64 z ∷ []) Post)
     walk room =
-        qed W ((‵ (flft κ q) ⊛ ‵ ftrue) ∷ ‵ (owns (MutSlice (named 0) κ u8 ∷ usize ∷ u64 ∷ u64 ∷ usize ∷ []) a vals) ∷ []) ∵ enter ! C Λ code.function (s ∷ vint w64 n ∷ vint w64 u ∷ vint w64 v ∷ vint w64 z ∷ []) _ $
+        qed W ((‵ (flft κ q) ⊛ ‵ ftrue) ∷ ‵ (owns (MutSlice (named 0) κ u8 ∷ P.the-row ∷ u64 ∷ u64 ∷ usize ∷ []) a vals) ∷ []) ∵ enter ! C Λ code.function (s ∷ place-mach n ∷ vint w64 u ∷ vint w64 v ∷ vint w64 z ∷ []) _ $
         alloc1 ! (λ l₀. alloc1 ! (λ l₁. alloc1 ! (λ l₂. alloc1 ! (λ l₃. alloc1 ! (λ l₄. alloc1 ! (λ l₅. alloc1 ! (λ l₆. alloc1 ! (λ l₇. alloc1 ! (λ l₈. alloc1 ! (λ l₉. alloc1 ! (λ l₁₀. alloc0 ! $ params1 ! $
-        pass1 ! (init ! 18 refl (tt, (tt, (record { fits = room .0 }, tt)))) $ pass1 ! (init ! 16 refl (tt, record { fits = n-fits })) $ pass1 ! (init ! 14 refl (tt, record { fits = u-fits })) $ pass1 ! (init ! 12 refl (tt, record { fits = v-fits })) $ pass1 ! (init ! 10 refl (tt, record { fits = z-fits })) $ pass0 ! $
+        pass1 ! (init ! 18 refl (tt, (tt, (record { fits = room .0 }, tt)))) $ pass1 ! (init ! 16 refl (tt, (record { fits = n-fits }, tt))) $ pass1 ! (init ! 14 refl (tt, record { fits = u-fits })) $ pass1 ! (init ! 12 refl (tt, record { fits = v-fits })) $ pass1 ! (init ! 10 refl (tt, record { fits = z-fits })) $ pass0 ! $
         -- [_10; …; _9; …; _8; …; _7; …; _6; …; _5; …; _4; …; _3; …; _2; …; _1; …; room for _0; …; the token; what the parameters own]
         assigns ! (addr ! (from ! (fld ! refl (hop ! (look-in ! 18 (sub ! 0 refl (whole !))) (stop !))))) (from ! (stop !)) (init ! 2 refl (tt, tt)) $
         assigns ! (agg ! (and-then ! (load ! (from ! (stop !)) (look ! 2 refl)) (and-then ! (load ! (from ! (fld ! refl (stop !))) (look-in ! 18 (sub ! 1 refl (whole !)))) (no-more !)))) (from ! (stop !)) (init ! 0 refl (tt, (tt, (record { fits = room .0 }, tt)))) $
         -- `new`
         move ! (23 ∷ []) $ fsplit ! $ move ! (24 ∷ 0 ∷ []) $ use2 W (raw (New 𝓤 H A mem run .pre to-new)) goes-new $
         calls-at ! fm (New 𝓤 H A mem run) known-new to-new (and-then ! (load ! (from ! (stop !)) (look ! 2 refl)) (and-then ! (load ! (from ! (stop !)) (look ! 18 refl)) (no-more !))) (λ w₀.
-        use1 W (later (some (λ (r : JitMemory). ((‵ (flft κ q) ⊛ ‵ ftrue) ⊛ ‵ (T.the-row α .own r (w₀ ∷ []))) ⊛ raw (ensured 𝓤 H A new.ended (new.clauses 𝓤 H A mem run) (κ, tt) (x ys, (n, tt)) tt r)))) (id⊢ 𝓤 _) $ await ! tt $ pick ! (λ r₀.
-        split ! $ move ! (1 ∷ []) $ use1 W (raw (fact 𝓤 ((r₀ .contents ≡ x ys) × (r₀ .offset ≡ n)))) (new-of 𝓤 H A mem run κ (x ys) n r₀) $ heard ! ((r₀ .contents ≡ x ys) × (r₀ .offset ≡ n)) (λ e₀.
+        use1 W (later (some (λ (r : JitMemory). ((‵ (flft κ q) ⊛ ‵ ftrue) ⊛ ‵ (T.the-row α .own r (w₀ ∷ []))) ⊛ raw (ensured 𝓤 H A new.ended (new.clauses 𝓤 H A mem run) (κ, tt) (x ys, (place n, tt)) tt r)))) (id⊢ 𝓤 _) $ await ! tt $ pick ! (λ r₀.
+        split ! $ move ! (1 ∷ []) $ use1 W (raw (fact 𝓤 ((r₀ .contents ≡ x ys) × (r₀ .offset ≡ place n)))) (new-of 𝓤 H A mem run κ (x ys) (place n) r₀) $ heard ! ((r₀ .contents ≡ x ys) × (r₀ .offset ≡ place n)) (λ e₀.
         split ! $ rewrite ! 1 (λ (h : JitMemory). ‵ (T.the-row α .own h (w₀ ∷ []))) (λ i. record { contents = e₀ .0 i; offset = e₀ .1 i }) refl $
         move ! (1 ∷ []) $ peeks ! (T.the-row α) (Is (T.the-row α)) (shows 𝓤 H A (T.the-row α)) h₀ (w₀ ∷ []) (λ is₀. land ! (from ! (stop !)) (init ! 7 refl (typed h₀ w₀ is₀)) $
         -- `emit_bytes`, of the first word
@@ -187,26 +191,26 @@ module _ {M : Type 1} (𝓤 : URA M) (H : Heap 𝓤) (A : Atoms 𝓤) (W : Given
         move ! (1 ∷ []) $ peeks ! (T.the-row α) (Is (T.the-row α)) (shows 𝓤 H A (T.the-row α)) h₂ (w₂ ∷ []) (λ is₂. land ! (from ! (stop !)) (init ! 11 refl (typed h₂ w₂ is₂)) $
         -- [what the last memory owns; the token; what the other parameters own; _10; …]: its place is read, and its borrow is taken out
         rewrite ! 11 (λ (y : Val). ‵ (fat fullShare (T′.mir erased) l₆ 0 y)) (ap only (LL.tells (T.the-type α) (T′.the-laws α) h₂ _ is₂)) refl $
-        assigns ! (of-opd ! (load ! (from ! (fld ! refl (stop !))) (look-in ! 11 (sub ! 1 refl (whole !))))) (from ! (stop !)) (init ! 23 refl (tt, record { fits = LL.owed (T.the-type α) (T′.the-laws α) h₂ _ is₂ .1 .0 .1 })) $
-        use1 W (given (w₂ ∷ [] ≡ mach ∷ []) (‵ (all-own (T.the-type α .parts) (T′.the-laws α) (x zs, (n + 8 + z, tt))))) (own-open 𝓤 H A W (T.the-type α) (T′.the-laws α) (x zs, (n + 8 + z, tt)) w₂) $ learn ! (λ _. fsplit ! $
+        assigns ! (of-opd ! (load ! (from ! (fld ! refl (stop !))) (look-in ! 11 (sub ! 1 refl (whole !))))) (from ! (stop !)) (init ! 23 refl (tt, (record { fits = knows-place _ _ (LL.owed (T.the-type α) (T′.the-laws α) h₂ _ is₂ .1 .0) }, tt))) $
+        use1 W (given (w₂ ∷ [] ≡ mach ∷ []) (‵ (all-own (T.the-type α .parts) (T′.the-laws α) (x zs, (place (n + 8 + z), tt))))) (own-open 𝓤 H A W (T.the-type α) (T′.the-laws α) (x zs, (place (n + 8 + z), tt)) w₂) $ learn ! (λ _. fsplit ! $
         rewrite ! 0 (λ (k : ℕ). ‵ (MutSlice (named 0) κ u8 .own (x zs) (sliceVal (b, o) k ∷ []))) as-long refl $
         returns ! (look ! 24 refl) $ forget ! 4 refl $ forget ! 6 refl $ forget ! 8 refl $ forget ! 10 refl $ forget ! 12 refl $ forget ! 14 refl $ forget ! 16 refl $ forget ! 18 refl $ forget ! 20 refl $ forget ! 22 refl $ forget ! 24 refl $
         move ! (24 ∷ 25 ∷ []) $ free1 ! $ move ! (22 ∷ 23 ∷ []) $ free1 ! $ move ! (20 ∷ 21 ∷ []) $ free1 ! $ move ! (18 ∷ 19 ∷ []) $ free1 ! $ move ! (16 ∷ 17 ∷ []) $ free1 ! $ move ! (14 ∷ 15 ∷ []) $ free1 ! $ move ! (12 ∷ 13 ∷ []) $ free1 ! $ move ! (10 ∷ 11 ∷ []) $ free1 ! $ move ! (8 ∷ 9 ∷ []) $ free1 ! $ move ! (6 ∷ 7 ∷ []) $ free1 ! $ move ! (4 ∷ 5 ∷ []) $ free1 ! $ free0 ! $
-        keep ! (2 ∷ 0 ∷ 3 ∷ []) $ by ! (exits (LL.owed (T.the-type α) (T′.the-laws α) h₂ _ is₂ .1 .0 .1))))))))))))))))))))))))))
+        keep ! (2 ∷ 0 ∷ 3 ∷ []) $ by ! (exits (knows-place _ _ (LL.owed (T.the-type α) (T′.the-laws α) h₂ _ is₂ .1 .0)))))))))))))))))))))))))))
 
 module _ {M : Type 1} (𝓤 : URA M) (H : Heap 𝓤) (A : Atoms 𝓤) (W : Given 𝓤 H A) (mem : Memory → SProp 𝓤) (run : Routine → Fun 𝓤) where
   emit-words-walks : (C : Calls 𝓤 H) (Λ : Loops 𝓤 H) → FmC 𝓤 H (W .laws) C → Triple 𝓤 (C #page·new) (New 𝓤 H A mem run) → Triple 𝓤 (C #page·emit-bytes) (Emit 𝓤 H A mem run)
       → Walks 𝓤 H A emit-words.ended stayed (WpFn 𝓤 H C Λ code.function) (emit-words.clauses 𝓤 H A mem run)
   emit-words-walks C Λ fm known-new known-emit = walked 𝓤 H A emit-words.ended stayed (emit-words.clauses 𝓤 H A mem run) (WpFn 𝓤 H C Λ code.function)
-      (λ κs. (slice-vals, (uint-vals w64, (uint-vals w64, (uint-vals w64, (uint-vals w64, tt)))))) (λ κs. (mut-slice-tells (named 0) (κs .0) u8, (uint-tells w64, (uint-tells w64, (uint-tells w64, (uint-tells w64, tt))))))
-      (λ κs qs bounds a g are. needs 𝓤 ((a .1 .0 + 16 ≤ length (a .0 .now)) × (a .1 .1 .1 .1 .0 ≤ 8)) _ (λ within.
-      walk 𝓤 H A W mem run (κs .0) (qs .0) (a .0 .ptr .0) (a .0 .ptr .1) (a .0 .name) (a .0 .now) (a .1 .0) (a .1 .1 .0) (a .1 .1 .1 .0) (a .1 .1 .1 .1 .0) (are .1 .0 .1) (are .1 .1 .0 .1) (are .1 .1 .1 .0 .1) (are .1 .1 .1 .1 .0 .1) within C Λ fm known-new known-emit (are .0 .0 .1)))
+      (λ κs. (slice-vals, (LL.vals P.the-type P′.the-laws, (uint-vals w64, (uint-vals w64, (uint-vals w64, tt)))))) (λ κs. (mut-slice-tells (named 0) (κs .0) u8, (LL.tells P.the-type P′.the-laws, (uint-tells w64, (uint-tells w64, (uint-tells w64, tt))))))
+      (λ κs qs bounds a g are. needs 𝓤 ((a .1 .0 .offset + 16 ≤ length (a .0 .now)) × (a .1 .1 .1 .1 .0 ≤ 8)) _ (λ within.
+      walk 𝓤 H A W mem run (κs .0) (qs .0) (a .0 .ptr .0) (a .0 .ptr .1) (a .0 .name) (a .0 .now) (a .1 .0 .offset) (a .1 .1 .0) (a .1 .1 .1 .0) (a .1 .1 .1 .1 .0) (knows-place _ _ (are .1 .0)) (are .1 .1 .0 .1) (are .1 .1 .1 .0 .1) (are .1 .1 .1 .1 .0 .1) within C Λ fm known-new known-emit (are .0 .0 .1)))
 
 emit-words-meets : {M : Type 1} (𝓤 : URA M) (H : Heap 𝓤) (A : Atoms 𝓤) → Given 𝓤 H A → (mem : Memory → SProp 𝓤) (run : Routine → Fun 𝓤) (𝓣 : Tables 𝓤 H)
     → Triple 𝓤 (𝓣 .C #page·new) (New 𝓤 H A mem run) → Triple 𝓤 (𝓣 .C #page·emit-bytes) (Emit 𝓤 H A mem run)
     → Meets 𝓤 H A emit-words.signature (WpFn 𝓤 H (𝓣 .C) (𝓣 .Λ) code.function) (emit-words.spec 𝓤 H A mem run)
 emit-words-meets 𝓤 H A W mem run 𝓣 known-new known-emit =
-    walk-meets 𝓤 H A emit-words.ended stayed W (goes-slice 𝓤 H A W 1 0 tt (plain (λ _. u8)), (goes-none 𝓤 H A W 1 (λ _. usize) yes (λ κs x f. refl), (goes-none 𝓤 H A W 1 (λ _. u64) yes (λ κs x f. refl), (goes-none 𝓤 H A W 1 (λ _. u64) yes (λ κs x f. refl), (goes-none 𝓤 H A W 1 (λ _. usize) yes (λ κs x f. refl), tt))))) (emit-words.clauses 𝓤 H A mem run)
+    walk-meets 𝓤 H A emit-words.ended stayed W (goes-slice 𝓤 H A W 1 0 tt (plain (λ _. u8)), (goes-none 𝓤 H A W 1 (λ _. P.the-row) yes (λ κs x f. refl), (goes-none 𝓤 H A W 1 (λ _. u64) yes (λ κs x f. refl), (goes-none 𝓤 H A W 1 (λ _. u64) yes (λ κs x f. refl), (goes-none 𝓤 H A W 1 (λ _. usize) yes (λ κs x f. refl), tt))))) (emit-words.clauses 𝓤 H A mem run)
     (WpFn 𝓤 H (𝓣 .C) (𝓣 .Λ) code.function) (WpFn-mono 𝓤 H (W .laws) 𝓣 code.function) (emit-words-walks 𝓤 H A W mem run (𝓣 .C) (𝓣 .Λ) (fmOf 𝓤 H (W .laws) 𝓣) known-new known-emit)
 
 pub emit-words-spec : {M : Type 1} → stated.statement M

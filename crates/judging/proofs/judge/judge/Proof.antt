@@ -30,11 +30,11 @@ enum-known-end c = search needs
 
 -- src/judge.rt:26:23
 add-if2 : tie.Need-add-if2
-add-if2 c = let within = rw (c .before .end .given .1) at (c .before .before .before .measure .ensures .within) in omega (arith, c .before .before .before .before .before .before .before .before .before .pre .1 .0, within .0)
+add-if2 c = let within = rw (c .before .before .end .given .1) at (c .before .before .before .before .measure .ensures .within) in omega (arith, c .before .before .before .before .before .before .before .before .before .before .pre .1 .0, within .0)
 
 -- src/judge.rt:27:17
 returns-2 : tie.Need-returns-2
-returns-2 c = no-room (length (c .before .before .before .before .before .before .before .before .before .before .args .prog .now) / 8) (c .before .before .before .before .before .before .before .before .before .before .args .page) (c .before .before .before .before .before .before .before .before .before .before .args .start) (rest (suc (length (c .before .before .before .before .before .before .before .before .before .before .args .prog .now) / 8)) (c .before .before .before .before .before .before .before .before .before .before .args .prog .now) (c .before .before .before .before .before .before .before .before .before .before .args .ids .now) (c .before .before .before .before .before .before .before .before .before .before .args .addresses .now) (c .before .before .before .before .before .before .before .before .before .before .args .page) 0 (c .before .before .before .before .before .before .before .before .before .before .args .start)) (sym (c .before .before .end .given .1) ∙ c .before .before .before .before .measure .ensures .answer) (c .if2 .taken)
+returns-2 c = no-room (length (c .before .before .before .before .before .before .before .before .before .before .before .args .prog .now) / 8) (c .before .before .before .before .before .before .before .before .before .before .before .args .page) (c .before .before .before .before .before .before .before .before .before .before .before .args .start .offset) (rest (suc (length (c .before .before .before .before .before .before .before .before .before .before .before .args .prog .now) / 8)) (c .before .before .before .before .before .before .before .before .before .before .before .args .prog .now) (c .before .before .before .before .before .before .before .before .before .before .before .args .ids .now) (c .before .before .before .before .before .before .before .before .before .before .before .args .addresses .now) (c .before .before .before .before .before .before .before .before .before .before .before .args .page) 0 (c .before .before .before .before .before .before .before .before .before .before .before .args .start .offset)) (sym (c .before .before .before .end .given .1) ∙ c .before .before .before .before .before .measure .ensures .answer) (c .if2 .taken)
 
 -- src/judge.rt:31:28
 enum-known-bad : tie.Need-enum-known-bad
@@ -42,18 +42,18 @@ enum-known-bad c = search needs
 
 -- src/judge.rt:32:17
 returns-3 : tie.Need-returns-3
-returns-3 c = bad-jump (length (c .before .before .before .before .before .before .before .before .before .before .before .before .before .args .prog .now) / 8) (c .before .before .before .before .before .before .before .before .before .before .before .before .before .args .page) (c .before .before .before .before .before .before .before .before .before .before .before .before .before .args .start) (rest (suc (length (c .before .before .before .before .before .before .before .before .before .before .before .before .before .args .prog .now) / 8)) (c .before .before .before .before .before .before .before .before .before .before .before .before .before .args .prog .now) (c .before .before .before .before .before .before .before .before .before .before .before .before .before .args .ids .now) (c .before .before .before .before .before .before .before .before .before .before .before .before .before .args .addresses .now) (c .before .before .before .before .before .before .before .before .before .before .before .before .before .args .page) 0 (c .before .before .before .before .before .before .before .before .before .before .before .before .before .args .start)) (sym (c .before .before .before .before .before .end .given .1) ∙ c .before .before .before .before .before .before .before .measure .ensures .answer) (c .before .bad .given .1) (c .before .before .before .if2 .left)
+returns-3 c = bad-jump (length (c .before .before .before .before .before .before .before .before .before .before .before .before .before .before .args .prog .now) / 8) (c .before .before .before .before .before .before .before .before .before .before .before .before .before .before .args .page) (c .before .before .before .before .before .before .before .before .before .before .before .before .before .before .args .start .offset) (rest (suc (length (c .before .before .before .before .before .before .before .before .before .before .before .before .before .before .args .prog .now) / 8)) (c .before .before .before .before .before .before .before .before .before .before .before .before .before .before .args .prog .now) (c .before .before .before .before .before .before .before .before .before .before .before .before .before .before .args .ids .now) (c .before .before .before .before .before .before .before .before .before .before .before .before .before .before .args .addresses .now) (c .before .before .before .before .before .before .before .before .before .before .before .before .before .before .args .page) 0 (c .before .before .before .before .before .before .before .before .before .before .before .before .before .before .args .start .offset)) (sym (c .before .before .before .before .before .before .end .given .1) ∙ c .before .before .before .before .before .before .before .before .measure .ensures .answer) (c .before .bad .given .1) (c .before .before .before .if2 .left)
 
 enum-told : tie.Need-enum-told
 enum-told c = search needs
 
 -- src/judge.rt:16:1
 returns-4 : tie.Need-returns-4
-returns-4 c = refuses (length (c .before .before .before .before .before .before .before .before .before .args .prog .now) / 8) (c .before .before .before .before .before .before .before .before .before .args .page) (c .before .before .before .before .before .before .before .before .before .args .start) (rest (suc (length (c .before .before .before .before .before .before .before .before .before .args .prog .now) / 8)) (c .before .before .before .before .before .before .before .before .before .args .prog .now) (c .before .before .before .before .before .before .before .before .before .args .ids .now) (c .before .before .before .before .before .before .before .before .before .args .addresses .now) (c .before .before .before .before .before .before .before .before .before .args .page) 0 (c .before .before .before .before .before .before .before .before .before .args .start)) (sym (c .before .refusal .given .1) ∙ c .before .before .before .measure .ensures .answer)
+returns-4 c = refuses (length (c .before .before .before .before .before .before .before .before .before .args .prog .now) / 8) (c .before .before .before .before .before .before .before .before .before .args .page) (c .before .before .before .before .before .before .before .before .before .args .start .offset) (rest (suc (length (c .before .before .before .before .before .before .before .before .before .args .prog .now) / 8)) (c .before .before .before .before .before .before .before .before .before .args .prog .now) (c .before .before .before .before .before .before .before .before .before .args .ids .now) (c .before .before .before .before .before .before .before .before .before .args .addresses .now) (c .before .before .before .before .before .before .before .before .before .args .page) 0 (c .before .before .before .before .before .before .before .before .before .args .start .offset)) (sym (c .before .refusal .given .1) ∙ c .before .before .before .measure .ensures .answer)
 
 -- src/judge.rt:16:1
 returns-5 : tie.Need-returns-5
-returns-5 c = all-good (length (c .before .before .before .before .before .before .before .before .before .before .before .before .args .prog .now) / 8) (c .before .before .before .before .before .before .before .before .before .before .before .before .args .page) (c .before .before .before .before .before .before .before .before .before .before .before .before .args .start) (rest (suc (length (c .before .before .before .before .before .before .before .before .before .before .before .before .args .prog .now) / 8)) (c .before .before .before .before .before .before .before .before .before .before .before .before .args .prog .now) (c .before .before .before .before .before .before .before .before .before .before .before .before .args .ids .now) (c .before .before .before .before .before .before .before .before .before .before .before .before .args .addresses .now) (c .before .before .before .before .before .before .before .before .before .before .before .before .args .page) 0 (c .before .before .before .before .before .before .before .before .before .before .before .before .args .start)) (sym (c .before .before .before .before .end .given .1) ∙ c .before .before .before .before .before .before .measure .ensures .answer) (c .enum-told .given .1) (c .before .before .if2 .left)
+returns-5 c = all-good (length (c .before .before .before .before .before .before .before .before .before .before .before .before .before .args .prog .now) / 8) (c .before .before .before .before .before .before .before .before .before .before .before .before .before .args .page) (c .before .before .before .before .before .before .before .before .before .before .before .before .before .args .start .offset) (rest (suc (length (c .before .before .before .before .before .before .before .before .before .before .before .before .before .args .prog .now) / 8)) (c .before .before .before .before .before .before .before .before .before .before .before .before .before .args .prog .now) (c .before .before .before .before .before .before .before .before .before .before .before .before .before .args .ids .now) (c .before .before .before .before .before .before .before .before .before .before .before .before .before .args .addresses .now) (c .before .before .before .before .before .before .before .before .before .before .before .before .before .args .page) 0 (c .before .before .before .before .before .before .before .before .before .before .before .before .before .args .start .offset)) (sym (c .before .before .before .before .before .end .given .1) ∙ c .before .before .before .before .before .before .before .measure .ensures .answer) (c .enum-told .given .1) (c .before .before .if2 .left)
 
 pub judge-spec : {M : Type 1} → statement M
 judge-spec =

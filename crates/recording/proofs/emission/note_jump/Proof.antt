@@ -42,10 +42,12 @@ use denote.Triple.Table.{entered, cited}
 use denote.Triple.Walked.{says, needs, Stays, stay-ref, stay-none, gave-slice, walkOf, AllGo, goes-none, goes-ref, goes-gave-slice, Walks, ends-at, walked, walk-meets}
 use denote.Exit.{yes}
 use Rattle.recording.specs.Emits.{Recorded}
+use Rattle.base.proofs.Position as P
+use Rattle.base.proofs.Position.Laws as P′
 use Rattle.recording.specs.declared.emission.Emission.{Emission}
 use Rattle.recording.proofs.emission.Emission as T
 use Rattle.recording.proofs.emission.Emission.Laws as T′
-use Rattle.recording.proofs.State.{Asked, state, mach, is-state, knows}
+use Rattle.recording.proofs.State.{Asked, place, place-mach, state, mach, is-place, is-state, knows}
 use Rattle.recording.proofs.emission.put_jump as put-jump
 use Rattle.recording.proofs.emission.put_jump.Symbol as put-jump-def
 use Rattle.recording.proofs.emission.put_jump.Symbol.{name as #put-jump}
@@ -84,13 +86,13 @@ module _ {M : Type 1} (𝓤 : URA M) (H : Heap 𝓤) (A : Atoms 𝓤) (W : Given
 
   -- what `put_jump`'s triple binds outside: the tables' own lifetimes, shares and values
   abbrev to-put-jump : PutJump 𝓤 H A at-mem run .Ghost
-  to-put-jump = (((κ₁, (κ₂, tt)), (q₁, (q₂, tt)), tt, (f, (g, (a, (j, (t, tt))))), (sf ∷ [], (sg ∷ [], (vint w64 a ∷ [], (vint w64 j ∷ [], (vint w32 t ∷ [], tt)))))), tt)
+  to-put-jump = (((κ₁, (κ₂, tt)), (q₁, (q₂, tt)), tt, (f, (g, (place a, (j, (t, tt))))), (sf ∷ [], (sg ∷ [], (place-mach a ∷ [], (vint w64 j ∷ [], (vint w32 t ∷ [], tt)))))), tt)
 
   goes : Asked (f .now) (g .now) a j → a < 2 ^ 64 → j < 2 ^ 64
       → ent 𝓤 (sep 𝓤 (sep 𝓤 (A .lft κ₁ q₁) (sep 𝓤 (A .lft κ₂ q₂) (sem 𝓤 H A ftrue))) (sep 𝓤 (sem 𝓤 H A (MutSlice (named 0) κ₁ u32 .own f (sf ∷ []))) (sem 𝓤 H A (MutSlice (named 1) κ₂ u32 .own g (sg ∷ []))))) (PutJump 𝓤 H A at-mem run .pre to-put-jump)
   goes asked a-fits j-fits =
       qed W ((‵ (flft κ₁ q₁) ⊛ ‵ (flft κ₂ q₂) ⊛ ‵ ftrue) ∷ ‵ (MutSlice (named 0) κ₁ u32 .own f (sf ∷ [])) ∷ ‵ (MutSlice (named 1) κ₂ u32 .own g (sg ∷ [])) ∷ []) ∵ says ! asked $ frame ! $
-      nothing ! $ owned ! u32 (Is u32) (uint-makes 𝓤 H A W w32) t _ (refl, t-fits) $ fjoin ! $ owned ! usize (Is usize) (uint-makes 𝓤 H A W w64) j _ (refl, j-fits) $ fjoin ! $ owned ! usize (Is usize) (uint-makes 𝓤 H A W w64) a _ (refl, a-fits) $ fjoin ! $
+      nothing ! $ owned ! u32 (Is u32) (uint-makes 𝓤 H A W w32) t _ (refl, t-fits) $ fjoin ! $ owned ! usize (Is usize) (uint-makes 𝓤 H A W w64) j _ (refl, j-fits) $ fjoin ! $ owned ! P.the-row (Is P.the-row) (LL.makes P.the-type P′.the-plain 𝓤 H A) (place a) _ (is-place a a-fits) $ fjoin ! $
       move ! (2 ∷ 0 ∷ []) $ fjoin ! $ move ! (1 ∷ 0 ∷ []) $ fjoin ! $ done !
 
   exits : (r : ℕ) (xs ys : List ℕ) → Recorded (f .now) xs (g .now) ys a j a r t → length xs ≡ length (f .now) → length ys ≡ length (g .now)
@@ -112,7 +114,7 @@ module _ {M : Type 1} (𝓤 : URA M) (H : Heap 𝓤) (A : Atoms 𝓤) (W : Given
         opens ! tt T.the-row {h = state a j} b o (λ vs. spelt ! T.the-row (Is T.the-row) (shows 𝓤 H A T.the-row) (LL.vals T.the-type T′.the-laws) (LL.tells T.the-type T′.the-laws) fullShare (state a j) vs b o $
         use1 W (‵ (fat fullShare T′.mir b o (mach a j))) (W .laws .raw-at fullShare T′.mir b o (mach a j)) $ move ! (1 ∷ []) $ peeks ! T.the-row (Is T.the-row) (shows 𝓤 H A T.the-row) (state a j) (mach a j ∷ []) (λ is. drop ! $
         -- [the state's cell; the open borrow; obs; auth; the tables' tokens; what the tables and target own; _11; …; _10; …; _9; …; _8; …; _7; …; _6; …; _5; …; _4; …; _3; …; _2; …; _1; …; room for _0; …]
-        assigns ! (of-opd ! (load ! (from ! (hop ! (look ! 26 refl) (fld ! refl (fld ! refl (stop !))))) (look-in ! 0 (sub ! 0 refl (sub ! 0 refl (whole !)))))) (from ! (stop !)) (init ! 18 refl (tt, record { fits = knows a j _ is .0 })) $
+        assigns ! (of-opd ! (load ! (from ! (hop ! (look ! 26 refl) (fld ! refl (stop !)))) (look-in ! 0 (sub ! 0 refl (whole !))))) (from ! (stop !)) (init ! 18 refl (tt, (record { fits = knows a j _ is .0 }, tt))) $
         assigns ! (of-opd ! (load ! (from ! (hop ! (look ! 26 refl) (fld ! refl (stop !)))) (look-in ! 0 (sub ! 1 refl (whole !))))) (from ! (stop !)) (init ! 16 refl (tt, record { fits = knows a j _ is .1 })) $
         assigns ! (addr ! (from ! (fld ! refl (hop ! (look-in ! 24 (sub ! 0 refl (whole !))) (stop !))))) (from ! (stop !)) (init ! 12 refl (tt, tt)) $
         assigns ! (agg ! (and-then ! (load ! (from ! (stop !)) (look ! 12 refl)) (and-then ! (load ! (from ! (fld ! refl (stop !))) (look-in ! 24 (sub ! 1 refl (whole !)))) (no-more !)))) (from ! (stop !)) (init ! 10 refl (tt, (tt, (record { fits = f-room .0 }, tt)))) $
@@ -123,9 +125,9 @@ module _ {M : Type 1} (𝓤 : URA M) (H : Heap 𝓤) (A : Atoms 𝓤) (W : Given
         -- [the call's `pre`; what target owns; the state's cell; the open borrow; obs; auth; _11; …]
         calls-at ! fm (PutJump 𝓤 H A at-mem run) known to-put-jump
         (and-then ! (load ! (from ! (stop !)) (look ! 10 refl)) (and-then ! (load ! (from ! (stop !)) (look ! 6 refl)) (and-then ! (load ! (from ! (stop !)) (look ! 18 refl)) (and-then ! (load ! (from ! (stop !)) (look ! 16 refl)) (and-then ! (load ! (from ! (stop !)) (look ! 20 refl)) (no-more !)))))) (λ w.
-        use1 W (later (some (λ (r : ℕ). ((‵ (flft κ₁ q₁) ⊛ ‵ (flft κ₂ q₂) ⊛ ‵ ftrue) ⊛ ‵ (usize .own r (w ∷ []))) ⊛ raw (ensured 𝓤 H A put-jump.ended (put-jump.clauses 𝓤 H A at-mem run) (κ₁, (κ₂, tt)) (f, (g, (a, (j, (t, tt))))) tt r)))) (id⊢ 𝓤 _) $ await ! tt $ pick ! (λ r.
+        use1 W (later (some (λ (r : ℕ). ((‵ (flft κ₁ q₁) ⊛ ‵ (flft κ₂ q₂) ⊛ ‵ ftrue) ⊛ ‵ (usize .own r (w ∷ []))) ⊛ raw (ensured 𝓤 H A put-jump.ended (put-jump.clauses 𝓤 H A at-mem run) (κ₁, (κ₂, tt)) (f, (g, (place a, (j, (t, tt))))) tt r)))) (id⊢ 𝓤 _) $ await ! tt $ pick ! (λ r.
         -- what `put_jump` ensures, at some last tables
-        split ! $ move ! (1 ∷ []) $ use1 W (some (λ (zs : List ℕ × (List ℕ × (Unit {0} × (Unit {0} × (Unit {0} × Unit {0}))))). ‵ (lasts put-jump.ended (κ₁, (κ₂, tt)) (f, (g, (a, (j, (t, tt))))) zs) ⊛ raw (fact 𝓤 (Recorded (f .now) (zs .0) (g .now) (zs .1 .0) a j a r t)))) (id⊢ 𝓤 _) $ pick ! (λ zs.
+        split ! $ move ! (1 ∷ []) $ use1 W (some (λ (zs : List ℕ × (List ℕ × (Unit {0} × (Unit {0} × (Unit {0} × Unit {0}))))). ‵ (lasts put-jump.ended (κ₁, (κ₂, tt)) (f, (g, (place a, (j, (t, tt))))) zs) ⊛ raw (fact 𝓤 (Recorded (f .now) (zs .0) (g .now) (zs .1 .0) a j a r t)))) (id⊢ 𝓤 _) $ pick ! (λ zs.
         split ! $ move ! (1 ∷ []) $ heard ! (Recorded (f .now) (zs .0) (g .now) (zs .1 .0) a j a r t) (λ e.
         fsplit ! $ fsplit ! $ move ! (1 ∷ []) $ feqL ! (λ l. move ! (1 ∷ []) $ fsplit ! $ fsplit ! $ move ! (1 ∷ []) $ feqL ! (λ m.
         -- [the last targets; …; the last fields; the tokens and the result; what target owns; the state's cell; the open borrow; obs; auth; _11; …]

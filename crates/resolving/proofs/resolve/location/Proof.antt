@@ -9,20 +9,23 @@ use Rattle.resolving.proofs.resolve.location.Statement.{statement}
 use Rattle.resolving.proofs.resolve.location.Tie as tie
 
 returns : tie.Need-returns
-returns c = simp (eq-eqb _ _ (c .if1 .taken))
+returns c = (rw (eq-eqb _ _ (c .if1 .taken)), c .before .pre .1)
 
-mul-result : tie.Need-mul-result
-mul-result c = search needs
+mul-t9 : tie.Need-mul-t9
+mul-t9 c = search needs
 
-shared-slice-read-result : tie.Need-shared-slice-read-result
-shared-slice-read-result c = search needs
+shared-slice-read-t11 : tie.Need-shared-slice-read-t11
+shared-slice-read-t11 c = search needs
+
+cast-t12 : tie.Need-cast-t12
+cast-t12 c = omega (arith, c .shared-slice-known .given (c .before .before .before .before .args .target))
 
 returns-2 : tie.Need-returns-2
-returns-2 c = simp (ne-eqb _ _ (c .before .before .if1 .left)) (sym (getD-take (c .before .before .before .args .n + 1) (c .before .before .before .args .locations .now) (c .before .before .before .args .target) 0 (omega (arith, c .before .if2 .taken))))
+returns-2 c = (rw (ne-eqb _ _ (c .before .before .before .if1 .left)) (sym (getD-take (c .before .before .before .before .args .n .number + 1) (c .before .before .before .before .args .locations .now) (c .before .before .before .before .args .target) 0 (omega (arith, c .before .if2 .taken)))), omega (arith, c .shared-slice-known .given (c .before .before .before .before .args .target)))
 
 returns-3 : tie.Need-returns-3
-returns-3 c = simp (ne-eqb _ _ (c .before .if1 .left)) (sym (List·getD-eq-default (take (c .before .before .args .n + 1) (c .before .before .args .locations .now)) 0 (simp length-take (omega (arith, c .if2 .left)))))
+returns-3 c = (rw (ne-eqb _ _ (c .before .before .if1 .left)) (sym (List·getD-eq-default (take (c .before .before .before .args .n .number + 1) (c .before .before .before .args .locations .now)) 0 (simp length-take (omega (arith, c .if2 .left))))), omega arith)
 
 pub location-spec : {M : Type 1} → statement M
 location-spec =
-    tie.close (tie.spec returns mul-result shared-slice-read-result returns-2 returns-3)
+    tie.close (tie.spec returns mul-t9 shared-slice-read-t11 cast-t12 returns-2 returns-3)

@@ -10,7 +10,10 @@ use Rattle.resolving.proofs.resolve.resolve_jumps.Statement.{statement}
 use Rattle.resolving.proofs.resolve.resolve_jumps.Tie as tie
 
 abbrev Inv-loop : tie.InvT-loop
-Inv-loop code₀ locations n fields targets exit count k₀ code k = Filling (placeOf (take (n + 1) locations) exit) count fields targets (filled (placeOf (take (n + 1) locations) exit) (take count fields) (take count targets) code₀) k code × (length code ≡ length code₀)
+Inv-loop code₀ locations n fields targets exit count k₀ code k =
+    Filling (placeOf (take (n .number + 1) locations) (exit .offset)) count fields targets
+    (filled (placeOf (take (n .number + 1) locations) (exit .offset)) (take count fields) (take count targets) code₀) k code
+    × (length code ≡ length code₀)
 
 abbrev μ-loop : tie.MeasureT-loop
 μ-loop code₀ locations n fields targets exit count k₀ code k = count - k
@@ -33,17 +36,20 @@ shared-slice-read-location c = search needs
 location-requires : tie.Need-location-requires Inv-loop μ-loop
 location-requires c κs = search needs
 
+cast-to : tie.Need-cast-to Inv-loop μ-loop
+cast-to c = omega (arith, c .before .location .ensures .1)
+
 wrapping-add-u32-requires : tie.Need-wrapping-add-u32-requires Inv-loop μ-loop
 wrapping-add-u32-requires c κs = search needs
 
-cast-store4 : tie.Need-cast-store4 Inv-loop μ-loop
-cast-store4 c = omega (arith, c .before .before .before .before .shared-slice-known4 .given (c .before .before .before .before .before .before .loop .k))
+cast-t15 : tie.Need-cast-t15 Inv-loop μ-loop
+cast-t15 c = omega (arith, c .before .before .before .before .shared-slice-known4 .given (c .before .before .before .before .before .before .loop .k))
 
 wrapping-sub-u32-requires : tie.Need-wrapping-sub-u32-requires Inv-loop μ-loop
 wrapping-sub-u32-requires c κs = search needs
 
 store4-requires : tie.Need-store4-requires Inv-loop μ-loop
-store4-requires c κs = omega (arith, c .before .before .before .before .before .before .before .before .before .before .before .before .pre .1 (c .before .before .before .before .before .before .before .loop .k) (c .before .before .before .before .before .before .loop-test .taken), c .before .before .before .before .before .before .before .loop .inv .1)
+store4-requires c κs = omega (arith, c .before .before .before .before .before .before .before .before .before .before .before .before .before .pre .1 (c .before .before .before .before .before .before .before .before .loop .k) (c .before .before .before .before .before .before .before .loop-test .taken), c .before .before .before .before .before .before .before .before .loop .inv .1)
 
 add-k : tie.Need-add-k Inv-loop μ-loop
 add-k c = search needs
@@ -52,7 +58,7 @@ loop-less : tie.Need-loop-less Inv-loop μ-loop
 loop-less c = search needs
 
 loop-again : tie.Need-loop-again Inv-loop μ-loop
-loop-again c = (fills _ (c .before .before .before .before .before .before .before .before .before .before .loop .inv .0) (c .before .before .before .before .before .before .before .before .before .loop-test .taken) (search needs) (search needs) (wraps _ _ _ (c .before .before .before .wrapping-sub-u32 .ensures) (search needs) (search needs) ∙ rw (c .before .before .before .before .before .before .location .ensures, c .before .before .before .before .before .wrapping-add-u32 .ensures)) (c .before .before .store4 .ensures), search needs)
+loop-again c = (fills _ (c .before .before .before .before .before .before .before .before .before .before .before .loop .inv .0) (c .before .before .before .before .before .before .before .before .before .before .loop-test .taken) (search needs) (search needs) (wraps _ _ _ (c .before .before .before .wrapping-sub-u32 .ensures) (search needs) (search needs) ∙ rw (c .before .before .before .before .before .before .before .location .ensures .0, c .before .before .before .before .before .wrapping-add-u32 .ensures)) (c .before .before .store4 .ensures), search needs)
 
 same-length : tie.Need-same-length Inv-loop μ-loop
 same-length c = search needs
@@ -72,8 +78,9 @@ resolve-jumps-spec =
     mul-location
     shared-slice-read-location
     location-requires
+    cast-to
     wrapping-add-u32-requires
-    cast-store4
+    cast-t15
     wrapping-sub-u32-requires
     store4-requires
     add-k

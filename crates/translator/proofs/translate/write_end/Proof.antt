@@ -14,11 +14,8 @@ mul-locations c = search needs
 slice-write-locations : tie.Need-slice-write-locations
 slice-write-locations c = search needs
 
-cast-resolve-jumps : tie.Need-cast-resolve-jumps
-cast-resolve-jumps c = search needs
-
 resolve-jumps-requires : tie.Need-resolve-jumps-requires
-resolve-jumps-requires c κs = ((simp length-set (omega (arith, c .before .before .before .before .before .before .before .before .before .before .pre .0)), (c .before .before .before .before .before .before .before .before .before .before .pre .0 .1 .1 .1 .0, c .before .before .before .before .before .before .before .before .before .before .pre .0 .1 .1 .1 .1)), λ k h. omega (arith, c .before .before .before .before .before .before .before .before .before .before .pre .1 k h))
+resolve-jumps-requires c κs = ((simp length-set (omega (arith, c .before .before .before .before .before .before .before .before .before .before .pre .0)), (omega (arith, c .before .before .before .before .before .before .before .before .before .before .pre .0), (c .before .before .before .before .before .before .before .before .before .before .pre .0 .1 .1 .1 .0, c .before .before .before .before .before .before .before .before .before .before .pre .0 .1 .1 .1 .1))), λ k h. omega (arith, c .before .before .before .before .before .before .before .before .before .before .pre .1 k h))
 
 same-length : tie.Need-same-length
 same-length c = search needs
@@ -36,7 +33,6 @@ write-end-spec =
     emit-epilogue-requires
     mul-locations
     slice-write-locations
-    cast-resolve-jumps
     resolve-jumps-requires
     same-length
     same-length-2

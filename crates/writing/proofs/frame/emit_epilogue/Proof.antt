@@ -15,9 +15,7 @@ same-length c = search needs
 
 returns : tie.Need-returns
 unfolding epilogue rex modrm
-returns c =
-    let entry = c .before .before .before .before .before in
-    c .before .before .emit-words .ensures .1 ∙ sets-append (entry .args .code .now) (entry .args .at) (le64 0x4100000200c48148) (le64 0xc35d5b5d415e415f)
+returns c = c .before .before .emit-words .ensures .1 ∙ sets-append (c .before .before .before .before .before .args .code .now) (c .before .before .before .before .before .args .at .offset) (le64 0x4100000200c48148) (le64 0xc35d5b5d415e415f)
 
 pub emit-epilogue-spec : {M : Type 1} → statement M
 emit-epilogue-spec = tie.close (tie.spec emit-words-requires same-length returns)

@@ -13,27 +13,24 @@ use Rattle.writing.proofs.frame.emit_prologue.Tie as tie
 emit-saves-requires : tie.Need-emit-saves-requires
 unfolding rex
 emit-saves-requires c κs =
-    let entry = c .before .before .before .before in
-    omega (arith, entry .pre .page, prologue-parts (entry .args .flags), size-append saves keepPacket)
+    omega (arith, c .before .before .before .before .pre .page, prologue-parts (c .before .before .before .before .args .flags), size-append saves keepPacket)
 
 emit-argument-requires : tie.Need-emit-argument-requires
 unfolding rex
 emit-argument-requires c κs =
-    let entry = c .before .before .before .before .before .before .before .before in
     let saved = c .before .before .before .emit-saves .ensures in
-    omega (arith, entry .pre .page, prologue-parts (entry .args .flags), size-append saves keepPacket, saved .next, length-blanks (saves ++ keepPacket))
+    omega (arith, c .before .before .before .before .before .before .before .before .pre .page, prologue-parts (c .before .before .before .before .before .before .before .before .args .flags), size-append saves keepPacket, saved .next, length-blanks (saves ++ keepPacket))
 
 emit-enter-requires : tie.Need-emit-enter-requires
 unfolding rex
 emit-enter-requires c κs =
-    let entry = c .before .before .before .before .before .before .before .before .before .before .before .before .before .before in
     let saved = c .before .before .before .before .before .before .before .before .before .emit-saves .ensures in
     let argued = c .before .before .before .before .before .emit-argument .ensures in
     record {
-      page = omega (arith, entry .pre .page, prologue-parts (entry .args .flags), size-append saves keepPacket, saved .next, length-blanks (saves ++ keepPacket), argued .next, length-blanks (argument (entry .args .flags)));
-      field = entry .pre .field;
-      target = entry .pre .target;
-      small = omega (arith, entry .pre .small);
+      page = omega (arith, c .before .before .before .before .before .before .before .before .before .before .before .before .before .before .pre .page, prologue-parts (c .before .before .before .before .before .before .before .before .before .before .before .before .before .before .args .flags), size-append saves keepPacket, saved .next, length-blanks (saves ++ keepPacket), argued .next, length-blanks (argument (c .before .before .before .before .before .before .before .before .before .before .before .before .before .before .args .flags)));
+      field = c .before .before .before .before .before .before .before .before .before .before .before .before .before .before .pre .field;
+      target = c .before .before .before .before .before .before .before .before .before .before .before .before .before .before .pre .target;
+      small = omega (arith, c .before .before .before .before .before .before .before .before .before .before .before .before .before .before .pre .small);
     }
 
 same-length : tie.Need-same-length

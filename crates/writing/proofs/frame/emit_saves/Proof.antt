@@ -18,8 +18,7 @@ returns : tie.Need-returns
 unfolding saves rex modrm
 returns c =
     let stored = c .before .before .emit-words .ensures in
-    let entry = c .before .before .before .before .before in
-    rw (stored .0) (same (two (entry .args .at) 0x5741564155415355 0xd28949 3 (omega arith) (omega (arith, entry .pre)) (stored .1)) refl)
+    rw (stored .0) (same (two (c .before .before .before .before .before .args .at .offset) 0x5741564155415355 0xd28949 3 (omega arith) (omega (arith, c .before .before .before .before .before .pre)) (stored .1)) refl)
 
 pub emit-saves-spec : {M : Type 1} → statement M
 emit-saves-spec = tie.close (tie.spec emit-words-requires same-length returns)
