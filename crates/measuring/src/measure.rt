@@ -118,18 +118,15 @@ pub fn measure(
             }
             Stepped::Go(known, i, value) => {
                 let m = slot_length(known, slot, i, value);
-                let next = Position {
-                    offset: at.offset + m.size,
-                };
-                if page < next.offset {
+                let end = at.offset + m.size;
+                if page < end {
                     return Measured::Refused(Refusal::NoRoom(slot));
                 }
                 bad = note_bad(bad, n, slot, m);
                 jumps += m.jumps;
-                slot = Slot {
-                    number: slot.number + slots_of(known),
-                };
-                at = next;
+                let next = slot.number + slots_of(known);
+                slot = Slot { number: next };
+                at = Position { offset: end };
             }
         }
     }

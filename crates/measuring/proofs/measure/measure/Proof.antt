@@ -42,29 +42,29 @@ enum-known-known c = search needs
 slot-length-requires : tie.Need-slot-length-requires Inv-loop μ-loop
 slot-length-requires c κs = let regs = rw (c .before .known .given .1) at (c .before .before .before .step .ensures .registers) in (regs .0, (regs .1, omega (arith, c .before .before .before .before .before .before .before .before .before .before .before .pre, c .before .before .before .before .before .before .before .loop .inv .sofar .inside)))
 
-add-t25 : tie.Need-add-t25 Inv-loop μ-loop
-add-t25 c = omega (arith, c .before .before .before .before .before .before .before .before .before .before .before .before .before .before .pre, c .before .before .before .before .before .before .before .before .before .before .loop .inv .sofar .room, c .before .before .slot-length .ensures .size-is, slot-most (c .before .before .before .before .known .given .0 .0) (c .before .before .before .before .before .before .before .before .before .before .loop .slot .number) (c .before .before .before .before .known .given .0 .1 .0) (c .before .before .before .before .known .given .0 .1 .1 .0))
+add-end : tie.Need-add-end Inv-loop μ-loop
+add-end c = omega (arith, c .before .before .before .before .before .before .before .before .before .before .before .before .before .before .pre, c .before .before .before .before .before .before .before .before .before .before .loop .inv .sofar .room, c .before .before .slot-length .ensures .size-is, slot-most (c .before .before .before .before .known .given .0 .0) (c .before .before .before .before .before .before .before .before .before .before .loop .slot .number) (c .before .before .before .before .known .given .0 .1 .0) (c .before .before .before .before .known .given .0 .1 .1 .0))
 
 returns-2 : tie.Need-returns-2 Inv-loop μ-loop
-returns-2 c = measuring-full (c .before .before .before .before .before .before .before .before .before .before .before .before .loop .inv) (blockOf (c .before .before .before .before .before .before .known .given .0 .0) (c .before .before .before .before .before .before .before .before .before .before .before .before .loop .slot .number) (c .before .before .before .before .before .before .known .given .0 .1 .0) (c .before .before .before .before .before .before .known .given .0 .1 .1 .0)) (c .before .before .before .before .before .before .before .before .before .before .if1 .taken) (rw (c .before .before .before .before .before .before .known .given .1) at (c .before .before .before .before .before .before .before .before .step .ensures .step)) (c .before .before .before .before .slot-length .ensures) (c .if2 .taken)
+returns-2 c = measuring-full (c .before .before .before .before .before .before .before .before .before .before .before .loop .inv) (blockOf (c .before .before .before .before .before .known .given .0 .0) (c .before .before .before .before .before .before .before .before .before .before .before .loop .slot .number) (c .before .before .before .before .before .known .given .0 .1 .0) (c .before .before .before .before .before .known .given .0 .1 .1 .0)) (c .before .before .before .before .before .before .before .before .before .if1 .taken) (rw (c .before .before .before .before .before .known .given .1) at (c .before .before .before .before .before .before .before .step .ensures .step)) (c .before .before .before .slot-length .ensures) (c .if2 .taken)
 
 note-bad-requires : tie.Need-note-bad-requires Inv-loop μ-loop
 note-bad-requires c κs = search needs
 
 add-jumps : tie.Need-add-jumps Inv-loop μ-loop
-add-jumps c = omega (arith, c .before .before .before .before .before .before .before .before .before .before .before .before .before .before .before .before .before .before .pre, c .before .before .before .before .before .before .before .before .before .before .before .before .before .before .loop .inv .few, c .before .before .before .before .before .before .before .before .before .before .before .before .before .before .loop .inv .sofar .inside, c .before .before .before .before .before .before .slot-length .ensures .jumps-are, slot-jumps (c .before .before .before .before .before .before .before .before .known .given .0 .0) (c .before .before .before .before .before .before .before .before .before .before .before .before .before .before .loop .slot .number) (c .before .before .before .before .before .before .before .before .known .given .0 .1 .0) (c .before .before .before .before .before .before .before .before .known .given .0 .1 .1 .0))
+add-jumps c = omega (arith, c .before .before .before .before .before .before .before .before .before .before .before .before .before .before .before .before .before .pre, c .before .before .before .before .before .before .before .before .before .before .before .before .before .loop .inv .few, c .before .before .before .before .before .before .before .before .before .before .before .before .before .loop .inv .sofar .inside, c .before .before .before .before .before .slot-length .ensures .jumps-are, slot-jumps (c .before .before .before .before .before .before .before .known .given .0 .0) (c .before .before .before .before .before .before .before .before .before .before .before .before .before .loop .slot .number) (c .before .before .before .before .before .before .before .known .given .0 .1 .0) (c .before .before .before .before .before .before .before .known .given .0 .1 .1 .0))
 
 slots-of-requires : tie.Need-slots-of-requires Inv-loop μ-loop
 slots-of-requires c κs = search needs
 
-add-t28 : tie.Need-add-t28 Inv-loop μ-loop
-add-t28 c = omega (arith, c .before .before .before .before .before .before .before .before .before .before .before .before .before .before .before .before .before .before .before .before .pre, c .before .before .before .before .before .before .before .before .before .before .before .before .before .before .before .before .loop .inv .sofar .inside, c .before .slots-of .ensures .1)
+add-next : tie.Need-add-next Inv-loop μ-loop
+add-next c = omega (arith, c .before .before .before .before .before .before .before .before .before .before .before .before .before .before .before .before .before .before .before .pre, c .before .before .before .before .before .before .before .before .before .before .before .before .before .before .before .loop .inv .sofar .inside, c .before .slots-of .ensures .1)
 
 loop-less : tie.Need-loop-less Inv-loop μ-loop
-loop-less c = omega (arith, c .before .before .before .before .before .before .before .before .before .before .before .before .before .before .before .before .before .before .before .before .pre, c .before .before .before .before .before .before .before .before .before .before .before .before .before .before .if1 .taken, c .before .before .before .before .before .before .before .before .before .before .before .before .before .before .before .before .loop .inv .sofar .inside, c .before .slots-of .ensures .0, wide-some (wideKind (c .before .before .before .before .before .before .before .before .before .before .known .given .0 .0)))
+loop-less c = omega (arith, c .before .before .before .before .before .before .before .before .before .before .before .before .before .before .before .before .before .before .before .pre, c .before .before .before .before .before .before .before .before .before .before .before .before .before .if1 .taken, c .before .before .before .before .before .before .before .before .before .before .before .before .before .before .before .loop .inv .sofar .inside, c .before .slots-of .ensures .0, wide-some (wideKind (c .before .before .before .before .before .before .before .before .before .known .given .0 .0)))
 
 loop-again : tie.Need-loop-again Inv-loop μ-loop
-loop-again c = measuring-on (c .before .before .before .before .before .before .before .before .before .before .before .before .before .before .before .before .loop .inv) (blockOf (c .before .before .before .before .before .before .before .before .before .before .known .given .0 .0) (c .before .before .before .before .before .before .before .before .before .before .before .before .before .before .before .before .loop .slot .number) (c .before .before .before .before .before .before .before .before .before .before .known .given .0 .1 .0) (c .before .before .before .before .before .before .before .before .before .before .known .given .0 .1 .1 .0)) (c .before .before .before .before .before .before .before .before .before .before .before .before .before .before .if1 .taken) (rw (c .before .before .before .before .before .before .before .before .before .before .known .given .1) at (c .before .before .before .before .before .before .before .before .before .before .before .before .step .ensures .step)) (c .before .before .before .before .before .before .before .before .slot-length .ensures) (search needs) (rw (← c .before .slots-of .ensures .0)) refl (c .before .before .before .note-bad .ensures)
+loop-again c = measuring-on (c .before .before .before .before .before .before .before .before .before .before .before .before .before .before .before .loop .inv) (blockOf (c .before .before .before .before .before .before .before .before .before .known .given .0 .0) (c .before .before .before .before .before .before .before .before .before .before .before .before .before .before .before .loop .slot .number) (c .before .before .before .before .before .before .before .before .before .known .given .0 .1 .0) (c .before .before .before .before .before .before .before .before .before .known .given .0 .1 .1 .0)) (c .before .before .before .before .before .before .before .before .before .before .before .before .before .if1 .taken) (rw (c .before .before .before .before .before .before .before .before .before .known .given .1) at (c .before .before .before .before .before .before .before .before .before .before .before .step .ensures .step)) (c .before .before .before .before .before .before .before .slot-length .ensures) (search needs) (rw (← c .before .slots-of .ensures .0)) refl (c .before .before .before .note-bad .ensures)
 
 returns-3 : tie.Need-returns-3 Inv-loop μ-loop
 returns-3 c = measuring-ends (c .before .before .loop .inv) (search needs)
@@ -82,12 +82,12 @@ measure-spec =
     returns
     enum-known-known
     slot-length-requires
-    add-t25
+    add-end
     returns-2
     note-bad-requires
     add-jumps
     slots-of-requires
-    add-t28
+    add-next
     loop-less
     loop-again
     returns-3)
