@@ -1,7 +1,7 @@
 //! The bench: rbpf's own JIT and this project's library, put to the same
 //! programs in one run.
 //!
-//! Here stand the two documents, as in the oracle, and the names they expect
+//! Here stand rbpf's two files, as in the oracle, and the names they expect
 //! at the crate root: real ones here, so that what they cost is counted. The
 //! programs are in `programs.rs`; `measure.rs` runs and marks them.
 //!
@@ -15,7 +15,7 @@ mod map;
 mod measure;
 mod programs;
 
-// The documents: neither formatted nor mended.
+// rbpf's files: neither formatted nor mended.
 #[path = "../../docs/src/ebpf.rs"]
 #[allow(dead_code, clippy::all)]
 #[rustfmt::skip]

@@ -1,5 +1,5 @@
--- The limits, each a number here and, for the code, in src/lib.rt, and by its name everywhere else. The code's contracts speak of these
--- names, so a number in src/lib.rt that is another is refused.
+-- The limits, each a number here and, for the code, in src/lib.rt, and by its name everywhere else. The contracts speak of these names, so
+-- another limit there is refused, and so is a slot's size below the one here; above it the quick check only keeps more room than it needs.
 -- Assumes nothing.
 use Prim.Native.Nat.{ℕ, _+_, _*_}
 

@@ -1,4 +1,4 @@
--- The number and the slot of each refusal: document 01's table. A refusal that names no slot gives 0.
+-- The number and the slot of each refusal: the table of docs/REFUSALS.md. A refusal that names no slot gives 0.
 -- Assumes nothing.
 use Prim.Native.Nat.{ℕ}
 use Rattle.jit.specs.declared.Refusal.{Refusal}

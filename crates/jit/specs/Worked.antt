@@ -1,4 +1,4 @@
--- The worked bytes of document 01 that are to be proved: one table under one theorem about the definitions, which antt computes.
+-- Worked bytes, as rbpf gives them: one table under one theorem about the definitions, which antt computes.
 -- Both flags are false and no helper is listed; the page has 4,096 bytes.
 -- Assumes nothing.
 use mathlib.Core.Path.{_≡_, refl}

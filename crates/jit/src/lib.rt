@@ -1,5 +1,6 @@
 // What the translator is asked and what it answers: the flags, and every reason to refuse. What it has to give is in specs/.
 use base::Slot;
+use ebpf::constants::PROG_MAX_INSNS;
 
 // The limits, as specs/Limits.antt has them.
 // The code buffer, in bytes.
@@ -12,8 +13,8 @@ pub const MOST_SLOTS: usize = 2048;
 pub const LONGEST_PROGRAM: usize = 8 * MOST_SLOTS;
 
 pub const MOST_HELPERS: usize = 256;
-// The target of a jump to the exit: TARGET_PC_EXIT of the Rust.
-pub const ANCHOR: u32 = 1000001;
+// The target of a jump to the exit: TARGET_PC_EXIT of rbpf, one more than a program may have slots there.
+pub const ANCHOR: u32 = PROG_MAX_INSNS as u32 + 1;
 // The most code that a slot can have: one of most kinds, and one that multiplies, divides or calls.
 pub const SHORT_SLOT: usize = 14;
 

@@ -9,7 +9,7 @@ use jit::Flags;
 use translator::translate::Answer;
 use translator::translate::translate;
 
-// Accepted: number 0, slot 0, the code's length and the count of jumps. Refused: document 01's number and slot, and 0 for the other two.
+// Accepted: number 0, slot 0, the code's length and the count of jumps. Refused: the number and slot of docs/REFUSALS.md, and 0 for the other two.
 #[repr(C)]
 pub struct Translation {
     pub number: u8,

@@ -26,7 +26,7 @@ use Rattle.jit.specs.declared.Bad.the-variants.{Nowhere, At}
 use Rattle.jit.specs.declared.Refusal.{Refusal}
 use Rattle.base.specs.Tests.{true-T}
 use Rattle.jit.specs.declared.Flags.{Flags}
-use Rattle.jit.specs.Limits.{shortestPage, longestPage, longestProgram, anchor}
+use Rattle.jit.specs.Limits.{shortestPage, longestPage, longestProgram, longestCode, anchor}
 use Rattle.jit.specs.Frame.{prologue, epilogue, prologue-targets, epilogue-targets}
 use Rattle.jit.specs.Translation.{Inputs, slotsOf, found, helperOf, Block, blockOf, Operand, lacks, has, wideValue, swapBits, helperValue, operandOf, Step, stop, go, taken, known, goodRegisters, stepRead, stepAt, Walk, refused, done, slotsWide, within, after, rest, flat, goodTarget, badIn, orElse, firstBad, Outcome, no, yes, whole, locations, exitOf, placeOf, accepted, unlessBad, finish, walkOf, badHelpers, sizesOf, translationOf}
 use Rattle.jit.specs.Counted.{all-slots, length-locations}
@@ -269,7 +269,7 @@ module _ (x : Inputs) (given : Given x) (code locs fields targets : List ℕ) wh
   abbrev f : Flags
   f = x .flags
 
-  parts-blocks : (bs : List Block) → walkOf x ≡ done bs → OriginsIn (x .program) 0 bs → length code ≤ 86081
+  parts-blocks : (bs : List Block) → walkOf x ≡ done bs → OriginsIn (x .program) 0 bs → length code ≤ longestCode
       → firstBad (slotsOf (x .program)) 0 bs ≡ Nowhere
       → accepted f bs ≡ yes code locs fields targets → Parts x code locs fields targets
   parts-blocks bs w o l g e =
@@ -289,7 +289,7 @@ module _ (x : Inputs) (given : Given x) (code locs fields targets : List ℕ) wh
         is-targets = cc;
       }
 
-  parts-finish : (w : Walk) → walkOf x ≡ w → Came (x .program) 0 w → length code ≤ 86081
+  parts-finish : (w : Walk) → walkOf x ≡ w → Came (x .program) 0 w → length code ≤ longestCode
       → finish f (slotsOf (x .program)) (x .page) w ≡ yes code locs fields targets → Parts x code locs fields targets
   parts-finish (refused r) q o l e = refuses e
   parts-finish (done bs) q o l e = by (leb (size (whole f bs)) (x .page)) (firstBad (slotsOf (x .program)) 0 bs) refl e
@@ -300,7 +300,7 @@ module _ (x : Inputs) (given : Given x) (code locs fields targets : List ℕ) wh
       by true (At s) g e = refuses e
       by false b g e = refuses e
 
-  bounded : translationOf x ≡ yes code locs fields targets → length code ≤ 86081
+  bounded : translationOf x ≡ yes code locs fields targets → length code ≤ longestCode
   bounded e = let b = bounds x in let h : Bound x (yes code locs fields targets) = rw e at b in h .all
 
   pub parts : translationOf x ≡ yes code locs fields targets → Parts x code locs fields targets
@@ -315,7 +315,7 @@ module _ (x : Inputs) (given : Given x) (code locs fields targets : List ℕ) wh
       all : Outcome
       all = finish f n (x .page) (walkOf x)
 
-      long : length code ≤ 86081
+      long : length code ≤ longestCode
       long = bounded e
 
       by : (a b c : Bool) → ltb longestProgram (length (x .program)) ≡ c → (d h : Bool)

@@ -1,4 +1,4 @@
--- One run from first to last, so that the statements are seen to be about something: EXIT alone, 51 bytes (document 01), with RSP at 4096.
+-- One run from first to last, so that the statements are seen to be about something: EXIT alone, 51 bytes, with RSP at 4096.
 -- Nineteen steps: the prologue, the slot's return to the prologue's jump, the epilogue, the last return; RSP is then 8 above 4096. And the
 -- same where the slot's return finds another address, which ends the premise, and where the first push faults.
 -- Assumes nothing.

@@ -1,4 +1,4 @@
-// The number and the slot of a refusal, as document 01's table has them, for whoever has to write them down.
+// The number and the slot of a refusal, as the table of docs/REFUSALS.md has them, for whoever has to write them down.
 ghost use mathlib.Core.Path.{_≡_};
 ghost use Rattle.jit.specs.Refusals.{numberOf, slotOf};
 use jit::Refusal;

@@ -11,6 +11,7 @@ use Rattle.base.specs.Pick.{pick}
 use Rattle.ebpf.specs.Insn.{readAt}
 use Rattle.ebpf.specs.declared.insn.Insn.{Insn}
 use Rattle.fields.specs.Fields.{fieldsAt}
+use Rattle.jit.specs.Limits.{shortestPage, longestPage, longestProgram, mostHelpers}
 use Rattle.words.specs.Text.{Says, ascii, stands}
 use Rattle.words.specs.Forms.{formed}
 use Rattle.words.specs.Numerals.{decimal, extended, decimal-most, signed-most}
@@ -34,11 +35,11 @@ either false xs ys h g = g
 size-most : (prog : List ℕ) (number : ℕ) → Short (sizeReason prog number)
 unfolding sizeReason
 size-most prog number =
-    either (eqb number 5) _ _ (omega arith)
+    either (eqb number 5) _ _ (simp length-append (omega (arith, decimal-most mostHelpers)))
     (either (eqb number 4) _ _ (simp length-append (omega (arith, decimal-most (length prog / 8 + 1))))
-    (either (eqb number 3) _ _ (simp length-append (omega (arith, decimal-most (length prog))))
-    (either (eqb number 2) _ _ (omega arith)
-    (either (eqb number 1) _ _ (omega arith) (omega arith)))))
+    (either (eqb number 3) _ _ (simp length-append (omega (arith, decimal-most (length prog), decimal-most longestProgram)))
+    (either (eqb number 2) _ _ (simp length-append (omega (arith, decimal-most longestPage)))
+    (either (eqb number 1) _ _ (simp length-append (omega (arith, decimal-most shortestPage))) (omega arith)))))
 
 opcode-most : (number : ℕ) (i : Insn) → Short (opcodeReason number i)
 unfolding opcodeReason

@@ -8,6 +8,7 @@ use Rattle.base.specs.Pick.{pick}
 use Rattle.base.specs.Cases.{Arm, _⇒_, cases}
 use Rattle.ebpf.specs.declared.insn.Insn.{Insn}
 use Rattle.fields.specs.Fields.{fieldsAt}
+use Rattle.jit.specs.Limits.{shortestPage, longestPage, longestProgram, mostHelpers}
 use Rattle.words.specs.Text.{ascii}
 use Rattle.words.specs.Numerals.{extended}
 use Rattle.words.specs.Forms.{formed}
@@ -37,17 +38,17 @@ badTarget prog slot i =
     (formed (ascii "a local call to slot ~, the program ends at #") (targetFrom slot (i .imm) ∷ length prog / 8 ∷ []))
     (formed (ascii "a jump to slot ~, the program ends at #") (targetFrom slot (i .off) ∷ length prog / 8 ∷ []))
 
--- Document 01's table: 1 to 5, which are of no slot, and 6 to 14.
+-- The table of docs/REFUSALS.md: 1 to 5, which are of no slot, and 6 to 14.
 abbrev pub sizeReasons : List ℕ → List (Arm (List ℕ))
 sizeReasons prog =
-    5 ⇒ ascii "the helper lists differ in length, are longer than 256, or hold an id twice"
+    5 ⇒ formed (ascii "the helper lists differ in length, are longer than #, or hold an id twice") (mostHelpers ∷ [])
     ∷ 4 ⇒ formed (ascii "a table is too short: this program needs # entries in each") ((length prog / 8 + 1) ∷ [])
-    ∷ 3 ⇒ formed (ascii "the program is too long: it has # bytes, the most is 16384") (length prog ∷ [])
-    ∷ 2 ⇒ ascii "the page is too long: the most is 131072 bytes"
-    ∷ 1 ⇒ ascii "the page is too short: the least is 4096 bytes"
+    ∷ 3 ⇒ formed (ascii "the program is too long: it has # bytes, the most is #") (length prog ∷ longestProgram ∷ [])
+    ∷ 2 ⇒ formed (ascii "the page is too long: the most is # bytes") (longestPage ∷ [])
+    ∷ 1 ⇒ formed (ascii "the page is too short: the least is # bytes") (shortestPage ∷ [])
     ∷ []
 
--- a number that document 01 does not have
+-- a number that is not in that table
 abbrev pub noReason : List ℕ
 noReason = ascii "refused for a reason that has no name"
 

@@ -1,4 +1,4 @@
-// A refusal in words, as `slot 3: unknown opcode 0x06 (refusal 8)`: where, why, and its number in document 01's table. Whoever tells
+// A refusal in words, as `slot 3: unknown opcode 0x06 (refusal 8)`: where, why, and its number in docs/REFUSALS.md. Whoever tells
 // an operator of a refusal says this sentence; it stands here alone.
 ghost use mathlib.Core.Path.{_≡_};
 ghost use Rattle.words.specs.Text.{Says};
@@ -11,6 +11,15 @@ use fields::fields_at;
 use words::form::put_form;
 use words::number::extended;
 use words::text::put_text;
+
+// The limits, as they are said.
+const SHORTEST_PAGE: u64 = jit::SHORTEST_PAGE as u64;
+
+const LONGEST_PAGE: u64 = jit::LONGEST_PAGE as u64;
+
+const LONGEST_PROGRAM: u64 = jit::LONGEST_PROGRAM as u64;
+
+const MOST_HELPERS: u64 = jit::MOST_HELPERS as u64;
 
 // Bytes that hold every sentence: what it takes to lend.
 pub const SENTENCE_ENOUGH: usize = 200;
@@ -111,13 +120,23 @@ fn put_size_reason(out: &mut [u8], at: usize, prog: &[u8], number: u8) -> usize
     let length = prog.len() as u64;
     let entries = (prog.len() / INSN_SIZE) as u64 + 1;
     match number {
-        1 => put_text(out, at, b"the page is too short: the least is 4096 bytes"),
-        2 => put_text(out, at, b"the page is too long: the most is 131072 bytes"),
+        1 => put_form(
+            out,
+            at,
+            b"the page is too short: the least is # bytes",
+            &[SHORTEST_PAGE],
+        ),
+        2 => put_form(
+            out,
+            at,
+            b"the page is too long: the most is # bytes",
+            &[LONGEST_PAGE],
+        ),
         3 => put_form(
             out,
             at,
-            b"the program is too long: it has # bytes, the most is 16384",
-            &[length],
+            b"the program is too long: it has # bytes, the most is #",
+            &[length, LONGEST_PROGRAM],
         ),
         4 => put_form(
             out,
@@ -125,10 +144,11 @@ fn put_size_reason(out: &mut [u8], at: usize, prog: &[u8], number: u8) -> usize
             b"a table is too short: this program needs # entries in each",
             &[entries],
         ),
-        5 => put_text(
+        5 => put_form(
             out,
             at,
-            b"the helper lists differ in length, are longer than 256, or hold an id twice",
+            b"the helper lists differ in length, are longer than #, or hold an id twice",
+            &[MOST_HELPERS],
         ),
         _ => put_text(out, at, b"refused for a reason that has no name"),
     }

@@ -12,9 +12,13 @@ ghost use Rattle.jit.specs.Limits.{epilogueSize};
 use base::Position;
 use base::Size;
 use base::Width;
+use ebpf::constants::STACK_SIZE;
 use jit::Flags;
 use recording::emission;
 use recording::emission::Emission;
+
+// The program's stack, in bytes.
+const STACK: u32 = STACK_SIZE as u32;
 
 // What the caller keeps, push rbp, rbx, r13, r14, r15, which is one word; and the packet's address, mov r10, rdx.
 fn emit_saves(code: &mut [u8], at: Position) -> Position
@@ -64,7 +68,7 @@ fn emit_enter(code: &mut [u8], fields: &mut [u32], targets: &mut [u32], e: Emiss
     ensures { λ r. ⌜ Emits (now (code .entry)) (now (code .exit)) (now (fields .entry)) (now (fields .exit)) (now (targets .entry)) (now (targets .exit)) (e .at .offset) (e .jumps) (r .at .offset) (r .jumps) enter ⌝ }
 {
     let a = emit::alu::emit_alu(code, e.at, Width::W64, 0x89, 4, 5);
-    let b = emit::alu::emit_alu_imm32(code, a, Width::W64, 0x81, 5, 4, 512);
+    let b = emit::alu::emit_alu_imm32(code, a, Width::W64, 0x81, 5, 4, STACK);
     let c = emit::jump::emit_call(code, b, 5);
     let d = emit::jump::emit_jmp(code, c, 0);
     emission::record_jump(fields, targets, d, e.jumps, jit::ANCHOR)
