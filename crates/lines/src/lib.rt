@@ -4,6 +4,7 @@ ghost use mathlib.Core.List.{[], _∷_};
 ghost use Prim.Native.Nat.{_+_, _/_, min};
 ghost use lib.ListN.{length};
 ghost use Rattle.words.specs.Text.{Says};
+ghost use Rattle.lines.specs.Lines.{bytecodeLine};
 use assembler::put_slot;
 use libc::STDOUT_FILENO;
 use words::form::put_form;
@@ -17,21 +18,30 @@ pub const LINE: usize = 240;
 pub const BYTECODE: usize = 22;
 
 // The line is over: its newline is put, and it is written out.
-pub fn finish(line: &mut [u8], at: usize) -> usize
+pub fn write_line(fd: i32, line: &mut [u8], at: usize) -> usize
     ensures { λ r. ⌜ Says (now (line .entry)) (now (line .exit)) at r (10 ∷ []) ⌝ }
 {
     let end = put_byte(line, at, b'\n');
     if end <= line.len() {
-        io::write_all(STDOUT_FILENO, &line[..end]);
+        io::write_all(fd, &line[..end]);
     }
     end
 }
 
-fn list_bytecode(line: &mut [u8], prog: &[u8], slot: usize) {
+pub fn finish(line: &mut [u8], at: usize) -> usize
+    ensures { λ r. ⌜ Says (now (line .entry)) (now (line .exit)) at r (10 ∷ []) ⌝ }
+{
+    write_line(STDOUT_FILENO, line, at)
+}
+
+// A slot's line, as `slot 1                goto +90`: its number and its bytecode.
+fn list_bytecode(line: &mut [u8], prog: &[u8], slot: usize) -> usize
+    ensures { λ r. ⌜ Says (now (line .entry)) (now (line .exit)) 0 r (bytecodeLine (now (prog .entry)) slot) ⌝ }
+{
     let next = put_form(line, 0, b"slot #", &[slot as u64]);
     let next = put_padding(line, next, BYTECODE);
     let next = put_slot(line, next, prog, slot);
-    finish(line, next);
+    finish(line, next)
 }
 
 // The slots of a refused program, up to the one that is refused; nothing became of them. The answer is how many are listed.

@@ -1,118 +1,137 @@
-// Lists what becomes of the bytecode on standard input: each slot, its place in the page, its machine instructions as the proved reader
-// reads them from the translated bytes, and where it jumps. A refused program gets its slots up to the refusal, and the reason.
+// Lists what becomes of the bytecode in a file or on standard input: each slot, its place in the page, its machine instructions and where it
+// jumps. A refused program gets its slots up to the refusal; the reason goes to standard error.
+ghost use mathlib.Core.Path.{_≡_};
+ghost use Prim.Native.Nat.{_≤_};
+ghost use lib.ListN.{length};
+
 mod options;
-mod table;
 
 use jit::Flags;
-use jit::Refusal;
+use libc::STDERR_FILENO;
 use libc::STDIN_FILENO;
 use libc::STDOUT_FILENO;
-use lines::LINE;
 use options::LARGEST;
+use options::MOST_HELPERS;
 use options::Options;
 use records::stream;
-use table::Totals;
-use translator::translate::Answer;
-use translator::translate::translate;
+use records::stream::Window;
+use tables::list_filter;
 
 // One byte more than a program may have: a longer one is refused for it, however long it is.
 const INPUT: usize = 16385;
 // An entry for each slot that the input can hold, and one.
 const TABLE: usize = 2049;
 
-const EPILOGUE: usize = 16;
-
 fn explain() {
     io::write_all(
         STDOUT_FILENO,
-        b"listing: bytecode on standard input; what becomes of it on standard output.\n",
+        b"listing [OPTIONS] [FILE]: what becomes of the bytecode in FILE, or on standard input, on standard output.\n",
     );
     io::write_all(
         STDOUT_FILENO,
-        b"  --mbuff            the flag use_mbuff\n  --update-data-ptr  the flag update_data_ptr\n",
+        b"A refused filter shows its slots up to the refusal; the reason goes to standard error.\n",
     );
     io::write_all(
         STDOUT_FILENO,
-        b"  --page N           a page of N bytes, 4096 to 131072 (4096 unless said)\n  --help             this text\n",
+        b"  --mbuff              the flag use_mbuff\n  --update-data-ptr    the flag update_data_ptr\n",
+    );
+    io::write_all(
+        STDOUT_FILENO,
+        b"  --page N             a page of N bytes, 4096 to 131072 (4096 unless said)\n",
+    );
+    io::write_all(
+        STDOUT_FILENO,
+        b"  --helper ID          the filter may call helper ID; up to 256 times\n  --helper ID=ADDRESS  and the page calls it at ADDRESS (0x7f0000000000 unless said), which the listing shows where it is loaded\n",
+    );
+    io::write_all(
+        STDOUT_FILENO,
+        b"  --help               this text\nNumbers are decimal, or hexadecimal behind 0x.\n",
     );
 }
 
-// Refusals below 6 are of no slot.
-fn list_until(prog: &[u8], number: u8, slot: usize) {
-    if number < 6 {
-        return;
-    }
-    lines::list_slots(prog, slot);
-}
-
-fn refuse(prog: &[u8], refusal: Refusal) {
-    let mut line = [0u8; LINE];
-    let number = refusals::number_of(refusal);
-    let slot = refusals::slot_of(refusal);
-    list_until(prog, number, slot);
-    let end = sentences::sentence(prog, number, slot, &mut line);
-    lines::finish(&mut line, end);
-}
-
-fn exit_of(length: usize) -> usize {
-    if length < EPILOGUE {
-        return 0;
-    }
-    length - EPILOGUE
-}
-
-// Of the page the first `size` bytes are lent.
-fn answer(program: &[u8], flags: Flags, page: &mut [u8], size: usize) {
-    if page.len() < size {
-        return;
-    }
-    let mut locations = [0u32; TABLE];
-    let mut fields = [0u32; TABLE];
-    let mut targets = [0u32; TABLE];
-    let ids: [u32; 0] = [];
-    let addresses: [u64; 0] = [];
-    match translate(
-        program,
-        flags,
-        &ids,
-        &addresses,
-        &mut page[..size],
-        &mut locations,
-        &mut fields,
-        &mut targets,
-    ) {
-        Answer::Refused(refusal) => refuse(program, refusal),
-        Answer::Accepted { length, jumps } => {
-            let totals = Totals {
-                slots: program.len() / 8,
-                length: length,
-                jumps: jumps,
-                page: size,
-                exit: exit_of(length),
-            };
-            table::list_page(program, page, &locations, &fields, &targets, totals);
-        }
-    }
-}
-
-fn list(options: Options) {
-    let mut input = [0u8; INPUT];
-    let read = stream::fill(STDIN_FILENO, &mut input, 0, INPUT);
+fn read_standard(input: &mut [u8]) -> Window
+    ensures { λ r. ⌜ (r .start ≡ 0) × (r .end ≤ length (now (input .exit))) ⌝ }
+{
+    let read = stream::fill(STDIN_FILENO, input, 0, INPUT);
     if read.failed {
         os::fail(b"standard input");
-        return;
     }
-    let length = read.end;
+    read
+}
+
+// The file whose name is the argument `index`.
+fn read_file(index: usize, input: &mut [u8]) -> Window
+    ensures { λ r. ⌜ (r .start ≡ 0) × (r .end ≤ length (now (input .exit))) ⌝ }
+{
+    let mut path = io::buffer();
+    let n = os::arg(index, &mut path);
+    let fd = os::open_read(&path[..n]);
+    if fd < 0 {
+        os::fail(&path[..n]);
+        return Window {
+            start: 0,
+            end: 0,
+            failed: true,
+        };
+    }
+    let read = stream::fill(fd, input, 0, INPUT);
+    if read.failed {
+        os::fail(&path[..n]);
+    }
+    read
+}
+
+fn read_program(file: usize, input: &mut [u8]) -> Window
+    ensures { λ r. ⌜ (r .start ≡ 0) × (r .end ≤ length (now (input .exit))) ⌝ }
+{
+    if file == 0 {
+        return read_standard(input);
+    }
+    read_file(file, input)
+}
+
+// Of the page the first bytes are lent, as many as the options say.
+fn list_lent(program: &[u8], options: Options, ids: &[u32], addresses: &[u64])
+    requires { ⌜ options .page ≤ 131073 ⌝ }
+{
     let flags = Flags {
         use_mbuff: options.use_mbuff,
         update_data_ptr: options.update_data_ptr,
     };
+    let size = options.page;
     let mut page = [0u8; LARGEST];
-    answer(&input[..length], flags, &mut page, options.page);
+    let mut locations = [0u32; TABLE];
+    let mut fields = [0u32; TABLE];
+    let mut targets = [0u32; TABLE];
+    list_filter(
+        program,
+        flags,
+        ids,
+        addresses,
+        &mut page[..size],
+        &mut locations,
+        &mut fields,
+        &mut targets,
+        STDERR_FILENO,
+    );
+}
+
+fn list(options: Options, ids: &[u32], addresses: &[u64])
+    requires { ⌜ options .page ≤ 131073 ⌝ }
+{
+    let mut input = [0u8; INPUT];
+    let read = read_program(options.file, &mut input);
+    if read.failed {
+        return;
+    }
+    let length = read.end;
+    list_lent(&input[..length], options, ids, addresses);
 }
 
 fn main() {
-    let options = options::read_options();
+    let mut ids = [0u32; MOST_HELPERS];
+    let mut addresses = [0u64; MOST_HELPERS];
+    let options = options::read_options(&mut ids, &mut addresses);
     if options.wrong {
         return;
     }
@@ -120,5 +139,6 @@ fn main() {
         explain();
         return;
     }
-    list(options);
+    let n = options.helpers;
+    list(options, &ids[..n], &addresses[..n]);
 }

@@ -1,5 +1,13 @@
-// What the arguments ask for. A word that is not known, and a page size that is no number, get a sentence on standard error.
+// What the arguments ask for. A word that is not known, and a number or a helper that is none, get a sentence on standard error.
+ghost use mathlib.Core.Path.{_≡_};
 ghost use Prim.Native.Nat.{_≤_};
+ghost use lib.ListN.{length};
+use arguments::Helper;
+use arguments::Number;
+use arguments::Word;
+use arguments::helper_of;
+use arguments::number_of;
+use arguments::word_of;
 use libc::STDERR_FILENO;
 
 // One byte more than a page may have: a longer one is refused for it, however long it is.
@@ -7,145 +15,211 @@ pub const LARGEST: usize = 131073;
 
 const SMALLEST: usize = 4096;
 
+pub const MOST_HELPERS: usize = 256;
+
 pub struct Options {
     pub use_mbuff: bool,
     pub update_data_ptr: bool,
     pub page: usize,
+    // Which argument is the file's name; 0 where there is none.
+    pub file: usize,
+    // How many helpers are listed.
+    pub helpers: usize,
     pub help: bool,
     pub wrong: bool,
-    // The word before this one was --page.
+    // The word before this one was --page, or --helper.
     page_next: bool,
-}
-
-// A number, or a word that is none.
-enum Number {
-    Is(usize),
-    No,
+    helper_next: bool,
 }
 
 fn complain(what: &[u8], word: &[u8]) {
     io::write_all(STDERR_FILENO, b"listing: ");
     io::write_all(STDERR_FILENO, what);
     io::write_all(STDERR_FILENO, word);
-    io::write_all(STDERR_FILENO, b" (--help lists what is known)\n");
+    io::write_all(STDERR_FILENO, b" (--help explains the arguments)\n");
+}
+
+fn wronged(options: Options, what: &[u8], word: &[u8]) -> Options
+    ensures { λ r. ⌜ (r .page ≡ options .page) × (r .helpers ≡ options .helpers) ⌝ }
+{
+    let mut changed = options;
+    complain(what, word);
+    changed.wrong = true;
+    changed
 }
 
 // What is above the largest page stays there.
-fn clamped(n: usize) -> usize
+fn clamped(n: u64) -> usize
     ensures { λ r. ⌜ r ≤ 131073 ⌝ }
 {
-    if n < LARGEST {
-        return n;
+    if n < LARGEST as u64 {
+        return n as usize;
     }
     LARGEST
 }
 
-// One digit more.
-fn grown(n: usize, digit: u8) -> usize
-    requires { ⌜ n ≤ 131073 ⌝ }
-    ensures { λ r. ⌜ r ≤ 131073 ⌝ }
-{
-    clamped(10 * n + digit as usize)
-}
-
-fn number_of(word: &[u8]) -> Number {
-    if word.len() == 0 {
-        return Number::No;
-    }
-    let mut n = 0;
-    let mut i = 0;
-    while i < word.len() {
-        let c = word[i];
-        if c < 48 {
-            return Number::No;
-        }
-        if 57 < c {
-            return Number::No;
-        }
-        n = grown(n, c - 48);
-        i += 1;
-    }
-    Number::Is(n)
-}
-
 fn with_page(options: Options, word: &[u8]) -> Options
     requires { ⌜ options .page ≤ 131073 ⌝ }
-    ensures { λ r. ⌜ r .page ≤ 131073 ⌝ }
+    ensures { λ r. ⌜ (r .page ≤ 131073) × (r .helpers ≡ options .helpers) ⌝ }
 {
     let mut changed = options;
     changed.page_next = false;
     match number_of(word) {
         Number::Is(n) => {
             changed.page = clamped(n);
+            changed
         }
-        Number::No => {
-            complain(b"the page size is not a number: ", word);
-            changed.wrong = true;
-        }
+        Number::Not => wronged(changed, b"the page size is not a number: ", word),
     }
+}
+
+fn with_listed(
+    options: Options,
+    id: u32,
+    address: u64,
+    ids: &mut [u32],
+    addresses: &mut [u64],
+) -> Options
+    requires { ⌜ (options .page ≤ 131073) × ((options .helpers ≤ length (now ids)) × (options .helpers ≤ length (now addresses))) ⌝ }
+    ensures { λ r. ⌜ (r .page ≤ 131073) × ((r .helpers ≤ length (now (ids .exit))) × (r .helpers ≤ length (now (addresses .exit)))) ⌝ }
+{
+    let at = options.helpers;
+    if ids.len() <= at {
+        return wronged(options, b"a filter has at most ", b"256 helpers");
+    }
+    if addresses.len() <= at {
+        return wronged(options, b"a filter has at most ", b"256 helpers");
+    }
+    let mut changed = options;
+    ids[at] = id;
+    addresses[at] = address;
+    changed.helpers = at + 1;
     changed
 }
 
-fn with_word(options: Options, word: &[u8]) -> Options
-    requires { ⌜ options .page ≤ 131073 ⌝ }
-    ensures { λ r. ⌜ r .page ≤ 131073 ⌝ }
+fn with_helper(options: Options, word: &[u8], ids: &mut [u32], addresses: &mut [u64]) -> Options
+    requires { ⌜ (options .page ≤ 131073) × ((options .helpers ≤ length (now ids)) × (options .helpers ≤ length (now addresses))) ⌝ }
+    ensures { λ r. ⌜ (r .page ≤ 131073) × ((r .helpers ≤ length (now (ids .exit))) × (r .helpers ≤ length (now (addresses .exit)))) ⌝ }
+{
+    let mut changed = options;
+    changed.helper_next = false;
+    match helper_of(word) {
+        Helper::Listed(id, address) => with_listed(changed, id, address, ids, addresses),
+        Helper::Unclear => wronged(
+            changed,
+            b"a helper is ID or ID=ADDRESS, in decimal or behind 0x in hexadecimal, and not ",
+            word,
+        ),
+    }
+}
+
+fn with_file(options: Options, index: usize, word: &[u8]) -> Options
+    ensures { λ r. ⌜ (r .page ≡ options .page) × (r .helpers ≡ options .helpers) ⌝ }
+{
+    let mut changed = options;
+    if 0 < options.file {
+        return wronged(changed, b"a second file: ", word);
+    }
+    changed.file = index;
+    changed
+}
+
+// A word that is no number and no helper.
+fn with_option(options: Options, index: usize, word: &[u8]) -> Options
+    ensures { λ r. ⌜ (r .page ≡ options .page) × (r .helpers ≡ options .helpers) ⌝ }
+{
+    let mut changed = options;
+    match word_of(word) {
+        Word::Mbuff => {
+            changed.use_mbuff = true;
+            changed
+        }
+        Word::UpdateDataPtr => {
+            changed.update_data_ptr = true;
+            changed
+        }
+        Word::PageSize => {
+            changed.page_next = true;
+            changed
+        }
+        Word::HelperNext => {
+            changed.helper_next = true;
+            changed
+        }
+        Word::Help => {
+            changed.help = true;
+            changed
+        }
+        Word::File => with_file(options, index, word),
+        Word::Unknown => wronged(options, b"unknown option ", word),
+    }
+}
+
+fn with_word(
+    options: Options,
+    index: usize,
+    word: &[u8],
+    ids: &mut [u32],
+    addresses: &mut [u64],
+) -> Options
+    requires { ⌜ (options .page ≤ 131073) × ((options .helpers ≤ length (now ids)) × (options .helpers ≤ length (now addresses))) ⌝ }
+    ensures { λ r. ⌜ (r .page ≤ 131073) × ((r .helpers ≤ length (now (ids .exit))) × (r .helpers ≤ length (now (addresses .exit)))) ⌝ }
 {
     if options.page_next {
         return with_page(options, word);
     }
-    let mut changed = options;
-    if check::same(word, b"--mbuff") {
-        changed.use_mbuff = true;
-        return changed;
+    if options.helper_next {
+        return with_helper(options, word, ids, addresses);
     }
-    if check::same(word, b"--update-data-ptr") {
-        changed.update_data_ptr = true;
-        return changed;
-    }
-    if check::same(word, b"--page") {
-        changed.page_next = true;
-        return changed;
-    }
-    if check::same(word, b"--help") {
-        changed.help = true;
-        return changed;
-    }
-    complain(b"unknown argument ", word);
-    changed.wrong = true;
-    changed
+    with_option(options, index, word)
 }
 
-fn complete(options: Options) -> Options
-    requires { ⌜ options .page ≤ 131073 ⌝ }
-    ensures { λ r. ⌜ r .page ≤ 131073 ⌝ }
+// The argument `index`, which is read here; one that is too long to read is no option, no number and no file.
+fn with_argument(options: Options, index: usize, ids: &mut [u32], addresses: &mut [u64]) -> Options
+    requires { ⌜ (options .page ≤ 131073) × ((options .helpers ≤ length (now ids)) × (options .helpers ≤ length (now addresses))) ⌝ }
+    ensures { λ r. ⌜ (r .page ≤ 131073) × ((r .helpers ≤ length (now (ids .exit))) × (r .helpers ≤ length (now (addresses .exit)))) ⌝ }
 {
-    let mut changed = options;
-    if options.page_next {
-        complain(b"the page size is missing behind ", b"--page");
-        changed.wrong = true;
+    let mut word = io::buffer();
+    let n = os::arg(index, &mut word);
+    if os::errno() != 0 {
+        return wronged(options, b"an argument is longer than ", b"4096 bytes");
     }
-    changed
+    with_word(options, index, &word[..n], ids, addresses)
 }
 
-// What the arguments say is the operating system's; the page is one that there is room for. An argument's word is cut at 64 bytes, which no
-// known word reaches.
-pub fn read_options() -> Options
-    ensures { λ r. ⌜ r .page ≤ 131073 ⌝ }
+// The last word wants another behind it.
+fn complete(options: Options) -> Options
+    ensures { λ r. ⌜ (r .page ≡ options .page) × (r .helpers ≡ options .helpers) ⌝ }
+{
+    if options.page_next {
+        return wronged(options, b"the page size is missing behind ", b"--page");
+    }
+    if options.helper_next {
+        return wronged(options, b"the helper is missing behind ", b"--helper");
+    }
+    options
+}
+
+// What the arguments say is the operating system's; the page is one that there is room for, and the helpers stand at the start of `ids`
+// and `addresses`.
+pub fn read_options(ids: &mut [u32], addresses: &mut [u64]) -> Options
+    ensures { λ r. ⌜ (r .page ≤ 131073) × ((r .helpers ≤ length (now (ids .exit))) × (r .helpers ≤ length (now (addresses .exit)))) ⌝ }
 {
     let count = os::arg_count();
     let mut options = Options {
         use_mbuff: false,
         update_data_ptr: false,
         page: SMALLEST,
+        file: 0,
+        helpers: 0,
         help: false,
         wrong: false,
         page_next: false,
+        helper_next: false,
     };
     let mut i = 1;
     while i < count {
-        let mut word = [0u8; 64];
-        let n = os::arg(i, &mut word);
-        options = with_word(options, &word[..n]);
+        options = with_argument(options, i, ids, addresses);
         i += 1;
     }
     complete(options)

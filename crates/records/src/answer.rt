@@ -1,15 +1,33 @@
-// The bytes of an answer.
+// The bytes of an answer, and the line that tells a refusal.
 ghost use mathlib.Core.Path.{_≡_};
-ghost use Prim.Native.Nat.{_+_, _*_, _≤_};
+ghost use Prim.Native.Nat.{_+_, _*_, _≤_, min};
+ghost use lib.Dec.{leb};
 ghost use lib.ListN.{length};
+ghost use lib.Seq.{sets};
+ghost use Rattle.words.specs.Text.{Says};
+ghost use Rattle.base.specs.Bytes.{le32};
+ghost use Rattle.records.specs.Stored.{Stored, Put};
+ghost use Rattle.records.specs.Answers.{refusedBytes, entries, acceptedHead, acceptedBytes, acceptedFits, refusalLine};
 use crate::limits;
 use crate::numbers;
 use jit::Refusal;
+use words::form::put_form;
+use words::text::put_byte;
+
+// The line by which a program tells a refusal: its number and its slot, with the newline. 48 bytes hold it.
+pub fn put_refusal_line(out: &mut [u8], refusal: Refusal) -> usize
+    ensures { λ r. ⌜ Says (now (out .entry)) (now (out .exit)) 0 r (refusalLine refusal) ⌝ }
+{
+    let number = refusals::number_of(refusal) as u64;
+    let slot = refusals::slot_of(refusal) as u64;
+    let end = put_form(out, 0, b"refused # #", &[number, slot]);
+    put_byte(out, end, b'\n')
+}
 
 // The entries of a table, four bytes each, and the next place.
 fn put_table(out: &mut [u8], at: usize, table: &[u32]) -> usize
     requires { ⌜ at + 4 * length (now table) ≤ length (now out) ⌝ }
-    ensures { λ r. ⌜ r ≡ at + 4 * length (now (table .entry)) ⌝ }
+    ensures { λ r. ⌜ Put (now (out .entry)) (now (out .exit)) at r (entries (now (table .entry))) ⌝ }
 {
     let mut i = 0;
     while i < table.len() {
@@ -19,8 +37,23 @@ fn put_table(out: &mut [u8], at: usize, table: &[u32]) -> usize
     at + 4 * i
 }
 
+// The code, and the next place.
+fn put_code(out: &mut [u8], at: usize, code: &[u8]) -> usize
+    requires { ⌜ at + length (now code) ≤ length (now out) ⌝ }
+    ensures { λ r. ⌜ Put (now (out .entry)) (now (out .exit)) at r (now (code .entry)) ⌝ }
+{
+    let mut i = 0;
+    while i < code.len() {
+        numbers::put_byte(out, at + i, code[i]);
+        i += 1;
+    }
+    at + i
+}
+
 // A slot's number in the answer's four bytes. No program has a slot that does not fit.
-fn slot_number(x: usize) -> u32 {
+fn slot_number(x: usize) -> u32
+    ensures { λ r. ⌜ r ≡ min x 4294967295 ⌝ }
+{
     if x <= 4294967295 {
         x as u32
     } else {
@@ -30,7 +63,7 @@ fn slot_number(x: usize) -> u32 {
 
 // A refusal: its number and its slot. Answers how many bytes it is, or 0 where they do not fit.
 pub fn put_refused(out: &mut [u8], refusal: Refusal) -> usize
-    ensures { λ r. ⌜ r ≤ length (now (out .exit)) ⌝ }
+    ensures { λ r. ⌜ Stored (leb 9 (length (now (out .entry)))) (now (out .entry)) (now (out .exit)) r (refusedBytes refusal) ⌝ }
 {
     if out.len() < 9 {
         return 0;
@@ -40,11 +73,12 @@ pub fn put_refused(out: &mut [u8], refusal: Refusal) -> usize
     numbers::put_number(out, b, slot_number(refusals::slot_of(refusal)))
 }
 
-fn put_lengths(out: &mut [u8], code: usize, jumps: usize, ends: usize) -> usize
-    requires { ⌜ (17 ≤ length (now out)) × ((code ≤ 131073) × ((jumps ≤ 4096) × (ends ≤ 4096))) ⌝ }
-    ensures { λ r. ⌜ r ≡ 17 ⌝ }
+// What stands in front of the code: the length of the rest, and how much there is of each part.
+fn put_lengths(out: &mut [u8], code: usize, ends: usize, jumps: usize, targets: usize) -> usize
+    requires { ⌜ (17 ≤ length (now out)) × ((code ≤ 131073) × ((ends ≤ 4096) × ((jumps ≤ 4096) × (targets ≤ 4096)))) ⌝ }
+    ensures { λ r. ⌜ Put (now (out .entry)) (now (out .exit)) 0 r (acceptedHead code ends jumps targets) ⌝ }
 {
-    let total = 13 + code + 4 * ends + 8 * jumps;
+    let total = 13 + code + 4 * ends + 4 * jumps + 4 * targets;
     let a = numbers::put_number(out, 0, total as u32);
     let b = numbers::put_byte(out, a, 0);
     let c = numbers::put_number(out, b, code as u32);
@@ -61,7 +95,7 @@ pub fn put_accepted(
     fields: &[u32],
     targets: &[u32],
 ) -> usize
-    ensures { λ r. ⌜ r ≤ length (now (out .exit)) ⌝ }
+    ensures { λ r. ⌜ Stored (acceptedFits (now (out .entry)) (now (code .entry)) (now (locations .entry)) (now (fields .entry)) (now (targets .entry))) (now (out .entry)) (now (out .exit)) r (acceptedBytes (now (code .entry)) (now (locations .entry)) (now (fields .entry)) (now (targets .entry))) ⌝ }
 {
     if out.len() < limits::ANSWER {
         return 0;
@@ -78,8 +112,14 @@ pub fn put_accepted(
     if limits::TABLE < targets.len() {
         return 0;
     }
-    let at = put_lengths(out, code.len(), fields.len(), locations.len());
-    let b = at + bytes::copy(code, &mut out[at..]);
+    let at = put_lengths(
+        out,
+        code.len(),
+        locations.len(),
+        fields.len(),
+        targets.len(),
+    );
+    let b = put_code(out, at, code);
     let c = put_table(out, b, locations);
     let d = put_table(out, c, fields);
     put_table(out, d, targets)

@@ -2,6 +2,7 @@
 ghost use mathlib.Core.Path.{_≡_};
 ghost use Prim.Native.Nat.{_+_, _*_, _≤_};
 ghost use lib.ListN.{length};
+ghost use Rattle.records.specs.Cases.{addressesAt, wrongWith, partsOf, noCase, caseOf, idAt, addressAt, filled};
 use crate::limits;
 use crate::numbers;
 use problems::Problem;
@@ -22,7 +23,7 @@ pub struct Case {
 }
 
 fn no_case(problem: Problem) -> Case
-    ensures { λ r. ⌜ (r .ids ≡ 0) × ((r .addresses ≡ 0) × (r .program ≡ 0)) ⌝ }
+    ensures { λ r. ⌜ r ≡ noCase problem ⌝ }
 {
     Case {
         problem,
@@ -38,68 +39,47 @@ fn no_case(problem: Problem) -> Case
     }
 }
 
-// How many ids a case has, how many addresses and where they begin, and where its program does. Where there is a problem, all are 0.
-struct Shape {
-    problem: Problem,
-    ids: usize,
-    addresses: usize,
-    at: usize,
-    program: usize,
-}
-
-fn no_shape(problem: Problem) -> Shape
-    ensures { λ r. ⌜ (r .ids ≡ 0) × ((r .addresses ≡ 0) × ((r .at ≡ 0) × (r .program ≡ 0))) ⌝ }
-{
-    Shape {
-        problem,
-        ids: 0,
-        addresses: 0,
-        at: 0,
-        program: 0,
-    }
-}
-
 // The parts have to fill the body, and the helpers to fit what is there for them.
-fn shape_of(body: &[u8], most_ids: usize, most_addresses: usize) -> Shape
-    requires { ⌜ 21 ≤ length (now body) ⌝ }
-    ensures { λ r. ⌜ (r .ids ≤ «most_ids») × (21 + 4 * r .ids ≤ length (now (body .entry))) ⌝ }
-    ensures { λ r. ⌜ (r .addresses ≤ «most_addresses») × (r .at + 8 * r .addresses ≤ length (now (body .entry))) ⌝ }
-    ensures { λ r. ⌜ r .program ≤ length (now (body .entry)) ⌝ }
+fn wrong_with(body: &[u8], most_ids: usize, most_addresses: usize) -> Problem
+    ensures { λ r. ⌜ r ≡ wrongWith (now (body .entry)) «most_ids» «most_addresses» ⌝ }
 {
+    if body.len() == 0 {
+        return Problem::Unfilled;
+    }
+    if 3 < body[0] {
+        return Problem::OtherFlags;
+    }
+    if body.len() < 21 {
+        return Problem::Unfilled;
+    }
     let ids = numbers::count_at(body, 17);
     if most_ids < ids {
-        return no_shape(Problem::ManyIds);
+        return Problem::ManyIds;
     }
-    let at = 25 + 4 * ids;
-    if body.len() < at {
-        return no_shape(Problem::Unfilled);
+    if body.len() < 25 + 4 * ids {
+        return Problem::Unfilled;
     }
-    let addresses = numbers::count_at(body, at - 4);
+    let addresses = numbers::count_at(body, 21 + 4 * ids);
     if most_addresses < addresses {
-        return no_shape(Problem::ManyAddresses);
+        return Problem::ManyAddresses;
     }
-    let program = at + 8 * addresses + 4;
+    let program = 29 + 4 * ids + 8 * addresses;
     if body.len() < program {
-        return no_shape(Problem::Unfilled);
+        return Problem::Unfilled;
     }
-    let length = numbers::count_at(body, program - 4);
+    let length = numbers::count_at(body, 25 + 4 * ids + 8 * addresses);
     if limits::PROGRAM < length {
-        return no_shape(Problem::LongProgram);
+        return Problem::LongProgram;
     }
     if body.len() - program != length {
-        return no_shape(Problem::Unfilled);
+        return Problem::Unfilled;
     }
-    Shape {
-        problem: Problem::Nothing,
-        ids,
-        addresses,
-        at,
-        program,
-    }
+    Problem::Nothing
 }
 
 fn read_ids(body: &[u8], at: usize, ids: &mut [u32])
     requires { ⌜ at + 4 * length (now ids) ≤ length (now body) ⌝ }
+    ensures { λ _. ⌜ now (ids .exit) ≡ filled (idAt (now (body .entry)) at) (length (now (ids .entry))) (now (ids .entry)) ⌝ }
 {
     let mut i = 0;
     while i < ids.len() {
@@ -110,6 +90,7 @@ fn read_ids(body: &[u8], at: usize, ids: &mut [u32])
 
 fn read_addresses(body: &[u8], at: usize, addresses: &mut [u64])
     requires { ⌜ at + 8 * length (now addresses) ≤ length (now body) ⌝ }
+    ensures { λ _. ⌜ now (addresses .exit) ≡ filled (addressAt (now (body .entry)) at) (length (now (addresses .entry))) (now (addresses .entry)) ⌝ }
 {
     let mut i = 0;
     while i < addresses.len() {
@@ -118,10 +99,12 @@ fn read_addresses(body: &[u8], at: usize, addresses: &mut [u64])
     }
 }
 
-fn case_of(body: &[u8], shape: Shape) -> Case
-    requires { ⌜ 21 ≤ length (now body) ⌝ }
-    ensures { λ r. ⌜ (r .ids ≡ shape .ids) × ((r .addresses ≡ shape .addresses) × (r .program ≡ shape .program)) ⌝ }
+fn parts_of(body: &[u8]) -> Case
+    requires { ⌜ (21 ≤ length (now body)) × (addressesAt (now body) ≤ length (now body)) ⌝ }
+    ensures { λ r. ⌜ r ≡ partsOf (now (body .entry)) ⌝ }
 {
+    let ids = numbers::count_at(body, 17);
+    let addresses = numbers::count_at(body, 21 + 4 * ids);
     Case {
         problem: Problem::Nothing,
         use_mbuff: body[0] % 2 == 1,
@@ -130,34 +113,27 @@ fn case_of(body: &[u8], shape: Shape) -> Case
         locations: numbers::count_at(body, 5),
         fields: numbers::count_at(body, 9),
         targets: numbers::count_at(body, 13),
-        ids: shape.ids,
-        addresses: shape.addresses,
-        program: shape.program,
+        ids,
+        addresses,
+        program: 29 + 4 * ids + 8 * addresses,
     }
 }
 
 // The case in a body, its helpers put at the start of `ids` and `addresses`, whose lengths are how many there may be.
 pub fn take_apart(body: &[u8], ids: &mut [u32], addresses: &mut [u64]) -> Case
-    ensures { λ r. ⌜ (r .ids ≤ length (now (ids .exit))) × (r .addresses ≤ length (now (addresses .exit))) ⌝ }
-    ensures { λ r. ⌜ r .program ≤ length (now (body .entry)) ⌝ }
+    ensures { λ r. ⌜ r ≡ caseOf (now (body .entry)) (length (now (ids .entry))) (length (now (addresses .entry))) ⌝ }
+    ensures { λ r. ⌜ now (ids .exit) ≡ filled (idAt (now (body .entry)) 21) (r .ids) (now (ids .entry)) ⌝ }
+    ensures { λ r. ⌜ now (addresses .exit) ≡ filled (addressAt (now (body .entry)) (25 + 4 * r .ids)) (r .addresses) (now (addresses .entry)) ⌝ }
+    ensures { λ r. ⌜ (r .ids ≤ length (now (ids .exit))) × ((r .addresses ≤ length (now (addresses .exit))) × (r .program ≤ length (now (body .entry)))) ⌝ }
 {
-    if body.len() == 0 {
-        return no_case(Problem::Unfilled);
-    }
-    if body[0] > 3 {
-        return no_case(Problem::OtherFlags);
-    }
-    if body.len() < 21 {
-        return no_case(Problem::Unfilled);
-    }
-    let shape = shape_of(body, ids.len(), addresses.len());
-    let wrong = shape.problem;
+    let wrong = wrong_with(body, ids.len(), addresses.len());
     if !problems::is_nothing(wrong) {
         return no_case(wrong);
     }
-    let id_count = shape.ids;
-    let address_count = shape.addresses;
+    let case = parts_of(body);
+    let id_count = case.ids;
+    let address_count = case.addresses;
     read_ids(body, 21, &mut ids[..id_count]);
-    read_addresses(body, shape.at, &mut addresses[..address_count]);
-    case_of(body, shape)
+    read_addresses(body, 25 + 4 * id_count, &mut addresses[..address_count]);
+    case
 }

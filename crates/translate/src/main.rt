@@ -5,6 +5,7 @@ use jit::Refusal;
 use libc::STDERR_FILENO;
 use libc::STDIN_FILENO;
 use libc::STDOUT_FILENO;
+use records::answer::put_refusal_line;
 use records::stream;
 use translator::translate::Answer;
 use translator::translate::translate;
@@ -17,11 +18,9 @@ const PAGE: usize = 4096;
 const TABLE: usize = 2049;
 
 fn report(refusal: Refusal) {
-    io::write_all(STDERR_FILENO, b"refused ");
-    io::print_decimal(STDERR_FILENO, refusals::number_of(refusal) as u64);
-    io::write_all(STDERR_FILENO, b" ");
-    io::print_decimal(STDERR_FILENO, refusals::slot_of(refusal) as u64);
-    io::write_all(STDERR_FILENO, b"\n");
+    let mut line = [0u8; 48];
+    let end = put_refusal_line(&mut line, refusal);
+    io::write_all(STDERR_FILENO, &line[..end]);
 }
 
 fn write_code(page: &[u8], length: usize) {

@@ -1,19 +1,14 @@
-use lib.Seq.{length-take-le}
+use native.Mathlib.Omega.{arith}
+use lib.ListN.{length-take}
 use borrow.Author.Needs.{needs}
 use Rattle.listing.proofs.list.Statement.{statement}
 use Rattle.listing.proofs.list.Tie as tie
 
-slice-aggregate-fill : tie.Need-slice-aggregate-fill
-slice-aggregate-fill c = search needs
+slice-aggregate-read-program : tie.Need-slice-aggregate-read-program
+slice-aggregate-read-program c = search needs
 
-fill-requires : tie.Need-fill-requires
-fill-requires c κs = search needs
-
-slice-aggregate-fail : tie.Need-slice-aggregate-fail
-slice-aggregate-fail c = search needs
-
-fail-requires : tie.Need-fail-requires
-fail-requires c κs = search needs
+read-program-requires : tie.Need-read-program-requires
+read-program-requires c κs = search needs
 
 returns : tie.Need-returns
 returns c = search needs
@@ -21,14 +16,11 @@ returns c = search needs
 array-share-prefix-input : tie.Need-array-share-prefix-input
 array-share-prefix-input c = search needs
 
-slice-aggregate-answer : tie.Need-slice-aggregate-answer
-slice-aggregate-answer c = simp (length-take-le, c .before .before .before .fill .ensures .1)
+slice-aggregate-list-lent : tie.Need-slice-aggregate-list-lent
+slice-aggregate-list-lent c = simp length-take (omega arith)
 
-slice-aggregate-answer-2 : tie.Need-slice-aggregate-answer-2
-slice-aggregate-answer-2 c = search needs
-
-answer-requires : tie.Need-answer-requires
-answer-requires c κs = search needs
+list-lent-requires : tie.Need-list-lent-requires
+list-lent-requires c κs = search needs
 
 returns-2 : tie.Need-returns-2
 returns-2 c = search needs
@@ -37,13 +29,10 @@ pub list-spec : {M : Type 1} → statement M
 list-spec =
     tie.close
     (tie.spec
-    slice-aggregate-fill
-    fill-requires
-    slice-aggregate-fail
-    fail-requires
+    slice-aggregate-read-program
+    read-program-requires
     returns
     array-share-prefix-input
-    slice-aggregate-answer
-    slice-aggregate-answer-2
-    answer-requires
+    slice-aggregate-list-lent
+    list-lent-requires
     returns-2)

@@ -1,13 +1,15 @@
-use borrow.Author.Needs.{needs}
+use lib.ListN.{length}
+use mathlib.Core.Path.{_≡_}
 use Prim.Native.Nat.{_≤_, _-_}
+use borrow.Author.Needs.{needs}
 use Rattle.listing.proofs.options.read_options.Statement.{statement}
 use Rattle.listing.proofs.options.read_options.Tie as tie
 
 abbrev Inv-loop : tie.InvT-loop
-Inv-loop count options₀ i₀ options i = (1 ≤ i) × (options .page ≤ 131073)
+Inv-loop ids₀ addresses₀ count options₀ i₀ ids addresses options i = (1 ≤ i) × ((options .page ≤ 131073) × ((options .helpers ≤ length ids) × ((options .helpers ≤ length addresses) × ((length ids ≡ length ids₀) × (length addresses ≡ length addresses₀)))))
 
 abbrev μ-loop : tie.MeasureT-loop
-μ-loop count options₀ i₀ options i = count - i
+μ-loop ids₀ addresses₀ count options₀ i₀ ids addresses options i = count - i
 
 arg-count-requires : tie.Need-arg-count-requires Inv-loop μ-loop
 arg-count-requires c κs = search needs
@@ -15,20 +17,8 @@ arg-count-requires c κs = search needs
 loop-holds : tie.Need-loop-holds Inv-loop μ-loop
 loop-holds c = search needs
 
-slice-aggregate-arg : tie.Need-slice-aggregate-arg Inv-loop μ-loop
-slice-aggregate-arg c = search needs
-
-arg-requires : tie.Need-arg-requires Inv-loop μ-loop
-arg-requires c κs = search needs
-
-array-share-prefix-word : tie.Need-array-share-prefix-word Inv-loop μ-loop
-array-share-prefix-word c = search needs
-
-slice-aggregate-with-word : tie.Need-slice-aggregate-with-word Inv-loop μ-loop
-slice-aggregate-with-word c = search needs
-
-with-word-requires : tie.Need-with-word-requires Inv-loop μ-loop
-with-word-requires c κs = search needs
+with-argument-requires : tie.Need-with-argument-requires Inv-loop μ-loop
+with-argument-requires c κs = search needs
 
 add-i : tie.Need-add-i Inv-loop μ-loop
 add-i c = search needs
@@ -42,6 +32,12 @@ loop-again c = search needs
 complete-requires : tie.Need-complete-requires Inv-loop μ-loop
 complete-requires c κs = search needs
 
+same-length : tie.Need-same-length Inv-loop μ-loop
+same-length c = search needs
+
+same-length-2 : tie.Need-same-length-2 Inv-loop μ-loop
+same-length-2 c = search needs
+
 returns : tie.Need-returns Inv-loop μ-loop
 returns c = search needs
 
@@ -53,13 +49,11 @@ read-options-spec =
     μ-loop
     arg-count-requires
     loop-holds
-    slice-aggregate-arg
-    arg-requires
-    array-share-prefix-word
-    slice-aggregate-with-word
-    with-word-requires
+    with-argument-requires
     add-i
     loop-less
     loop-again
     complete-requires
+    same-length
+    same-length-2
     returns)

@@ -1,116 +1,82 @@
-use lib.Seq.{length-take-le}
+use borrow.Author.Tests.{not-true, not-false}
+use Rattle.records.specs.Cases.{noCase, addressesAt, programAt, case-wrong, case-fine, filled-none, filled-front, within-by, ids-of, addresses-of, program-of}
 use lib.ListN.{length-take}
 use native.Mathlib.Omega.{arith}
+use mathlib.Core.Path.{_∙_, sym}
 use borrow.Author.Needs.{needs}
 use Rattle.records.proofs.parts.take_apart.Statement.{statement}
 use Rattle.records.proofs.parts.take_apart.Tie as tie
 
--- src/parts.rt:146:9
-no-case-requires : tie.Need-no-case-requires
-no-case-requires c κs = search needs
+wrong-with-requires : tie.Need-wrong-with-requires
+wrong-with-requires c κs = search needs
 
--- src/parts.rt:146:9
-returns : tie.Need-returns
-returns c = search needs
-
--- src/parts.rt:148:8
-shared-slice-read-if2 : tie.Need-shared-slice-read-if2
-shared-slice-read-if2 c = search needs
-
--- src/parts.rt:149:9
-no-case-requires-2 : tie.Need-no-case-requires-2
-no-case-requires-2 c κs = search needs
-
--- src/parts.rt:149:9
-returns-2 : tie.Need-returns-2
-returns-2 c = search needs
-
--- src/parts.rt:152:9
-no-case-requires-3 : tie.Need-no-case-requires-3
-no-case-requires-3 c κs = search needs
-
--- src/parts.rt:152:9
-returns-3 : tie.Need-returns-3
-returns-3 c = search needs
-
--- src/parts.rt:154:9
-shape-of-requires : tie.Need-shape-of-requires
-shape-of-requires c κs = search needs
-
--- src/parts.rt:156:9
 is-nothing-requires : tie.Need-is-nothing-requires
 is-nothing-requires c κs = search needs
 
--- src/parts.rt:157:9
-no-case-requires-4 : tie.Need-no-case-requires-4
-no-case-requires-4 c κs = search needs
+no-case-requires : tie.Need-no-case-requires
+no-case-requires c κs = search needs
 
--- src/parts.rt:157:9
-returns-4 : tie.Need-returns-4
-returns-4 c = search needs
+returns : tie.Need-returns
+unfolding noCase
+returns c = (c .no-case .ensures ∙ case-wrong _ _ _ _ (c .before .before .before .wrong-with .ensures) (sym (c .before .before .is-nothing .ensures) ∙ not-true _ (c .before .if1 .taken)), (rw (c .no-case .ensures) (filled-none _ _), (rw (c .no-case .ensures) (filled-none _ _), rw (c .no-case .ensures) (search needs))))
 
--- src/parts.rt:161:24
+parts-of-requires : tie.Need-parts-of-requires
+parts-of-requires c κs = let w = within-by _ _ _ _ _ (c .before .before .wrong-with .ensures) (c .before .is-nothing .ensures) (not-false _ (c .if1 .left)) in (w .long, w .begins)
+
 slice-relend-prefix-read-ids : tie.Need-slice-relend-prefix-read-ids
-slice-relend-prefix-read-ids c = search needs
+slice-relend-prefix-read-ids c = let w = within-by _ _ _ _ _ (c .before .before .before .wrong-with .ensures) (c .before .before .is-nothing .ensures) (not-false _ (c .before .if1 .left)) in let i = ids-of _ _ (c .parts-of .ensures) in let a = addresses-of _ _ (c .parts-of .ensures) in let p = program-of _ _ (c .parts-of .ensures) in omega arith
 
--- src/parts.rt:161:24
 slice-aggregate-read-ids : tie.Need-slice-aggregate-read-ids
-slice-aggregate-read-ids c = simp (length-take-le, c .before .before .before .shape-of .ensures .0 .0)
+slice-aggregate-read-ids c = let w = within-by _ _ _ _ _ (c .before .before .before .before .wrong-with .ensures) (c .before .before .before .is-nothing .ensures) (not-false _ (c .before .before .if1 .left)) in let i = ids-of _ _ (c .before .parts-of .ensures) in let a = addresses-of _ _ (c .before .parts-of .ensures) in let p = program-of _ _ (c .before .parts-of .ensures) in simp length-take (omega arith)
 
--- src/parts.rt:161:5
 read-ids-requires : tie.Need-read-ids-requires
-read-ids-requires c κs = simp length-take (omega arith)
+unfolding addressesAt
+read-ids-requires c κs = let w = within-by _ _ _ _ _ (c .before .before .before .before .wrong-with .ensures) (c .before .before .before .is-nothing .ensures) (not-false _ (c .before .before .if1 .left)) in let i = ids-of _ _ (c .before .parts-of .ensures) in let a = addresses-of _ _ (c .before .parts-of .ensures) in let p = program-of _ _ (c .before .parts-of .ensures) in simp length-take (omega arith)
 
--- src/parts.rt:162:36
+mul-read-addresses : tie.Need-mul-read-addresses
+unfolding addressesAt
+mul-read-addresses c = let w = within-by _ _ _ _ _ (c .before .before .before .before .before .before .before .wrong-with .ensures) (c .before .before .before .before .before .before .is-nothing .ensures) (not-false _ (c .before .before .before .before .before .if1 .left)) in let i = ids-of _ _ (c .before .before .before .before .parts-of .ensures) in let a = addresses-of _ _ (c .before .before .before .before .parts-of .ensures) in let p = program-of _ _ (c .before .before .before .before .parts-of .ensures) in omega arith
+
+add-read-addresses : tie.Need-add-read-addresses
+unfolding addressesAt
+add-read-addresses c = let w = within-by _ _ _ _ _ (c .before .before .before .before .before .before .before .wrong-with .ensures) (c .before .before .before .before .before .before .is-nothing .ensures) (not-false _ (c .before .before .before .before .before .if1 .left)) in let i = ids-of _ _ (c .before .before .before .before .parts-of .ensures) in let a = addresses-of _ _ (c .before .before .before .before .parts-of .ensures) in let p = program-of _ _ (c .before .before .before .before .parts-of .ensures) in omega arith
+
 slice-relend-prefix-read-addresses : tie.Need-slice-relend-prefix-read-addresses
-slice-relend-prefix-read-addresses c = search needs
+slice-relend-prefix-read-addresses c = let w = within-by _ _ _ _ _ (c .before .before .before .before .before .before .before .wrong-with .ensures) (c .before .before .before .before .before .before .is-nothing .ensures) (not-false _ (c .before .before .before .before .before .if1 .left)) in let i = ids-of _ _ (c .before .before .before .before .parts-of .ensures) in let a = addresses-of _ _ (c .before .before .before .before .parts-of .ensures) in let p = program-of _ _ (c .before .before .before .before .parts-of .ensures) in omega arith
 
--- src/parts.rt:162:36
 slice-aggregate-read-addresses : tie.Need-slice-aggregate-read-addresses
-slice-aggregate-read-addresses c = simp (length-take-le, c .before .before .before .before .before .before .before .shape-of .ensures .1 .0 .0)
+slice-aggregate-read-addresses c = let w = within-by _ _ _ _ _ (c .before .before .before .before .before .before .before .before .wrong-with .ensures) (c .before .before .before .before .before .before .before .is-nothing .ensures) (not-false _ (c .before .before .before .before .before .before .if1 .left)) in let i = ids-of _ _ (c .before .before .before .before .before .parts-of .ensures) in let a = addresses-of _ _ (c .before .before .before .before .before .parts-of .ensures) in let p = program-of _ _ (c .before .before .before .before .before .parts-of .ensures) in simp length-take (omega arith)
 
--- src/parts.rt:162:5
 read-addresses-requires : tie.Need-read-addresses-requires
-read-addresses-requires c κs = simp length-take (omega arith)
+unfolding programAt
+read-addresses-requires c κs = let w = within-by _ _ _ _ _ (c .before .before .before .before .before .before .before .before .wrong-with .ensures) (c .before .before .before .before .before .before .before .is-nothing .ensures) (not-false _ (c .before .before .before .before .before .before .if1 .left)) in let i = ids-of _ _ (c .before .before .before .before .before .parts-of .ensures) in let a = addresses-of _ _ (c .before .before .before .before .before .parts-of .ensures) in let p = program-of _ _ (c .before .before .before .before .before .parts-of .ensures) in simp length-take (omega arith)
 
--- src/parts.rt:163:5
-case-of-requires : tie.Need-case-of-requires
-case-of-requires c κs = search needs
-
--- src/parts.rt:141:1
 same-length : tie.Need-same-length
 same-length c = search needs
 
--- src/parts.rt:141:1
 same-length-2 : tie.Need-same-length-2
 same-length-2 c = search needs
 
--- src/parts.rt:141:1
-returns-5 : tie.Need-returns-5
-returns-5 c = search needs
+returns-2 : tie.Need-returns-2
+returns-2 c = let w = within-by _ _ _ _ _ (c .before .before .before .before .before .before .before .before .before .before .before .wrong-with .ensures) (c .before .before .before .before .before .before .before .before .before .before .is-nothing .ensures) (not-false _ (c .before .before .before .before .before .before .before .before .before .if1 .left)) in let i = ids-of _ _ (c .before .before .before .before .before .before .before .before .parts-of .ensures) in let a = addresses-of _ _ (c .before .before .before .before .before .before .before .before .parts-of .ensures) in let p = program-of _ _ (c .before .before .before .before .before .before .before .before .parts-of .ensures) in (c .before .before .before .before .before .before .before .before .parts-of .ensures ∙ case-fine _ _ _ _ (c .before .before .before .before .before .before .before .before .before .before .before .wrong-with .ensures) (sym (c .before .before .before .before .before .before .before .before .before .before .is-nothing .ensures) ∙ not-false _ (c .before .before .before .before .before .before .before .before .before .if1 .left)), (rw (c .before .before .before .before .before .before .read-ids .ensures) (filled-front _ _ _ (omega arith)), (rw (c .before .before .read-addresses .ensures) (filled-front _ _ _ (omega arith)), search needs)))
 
 pub take-apart-spec : {M : Type 1} → statement M
 take-apart-spec =
     tie.close
     (tie.spec
+    wrong-with-requires
+    is-nothing-requires
     no-case-requires
     returns
-    shared-slice-read-if2
-    no-case-requires-2
-    returns-2
-    no-case-requires-3
-    returns-3
-    shape-of-requires
-    is-nothing-requires
-    no-case-requires-4
-    returns-4
+    parts-of-requires
     slice-relend-prefix-read-ids
     slice-aggregate-read-ids
     read-ids-requires
+    mul-read-addresses
+    add-read-addresses
     slice-relend-prefix-read-addresses
     slice-aggregate-read-addresses
     read-addresses-requires
-    case-of-requires
     same-length
     same-length-2
-    returns-5)
+    returns-2)

@@ -11,39 +11,30 @@ Inv-loop buffer₀ start count i₀ buffer i = (length buffer ≡ length buffer�
 abbrev μ-loop : tie.MeasureT-loop
 μ-loop buffer₀ start count i₀ buffer i = count - i
 
--- src/stream.rt:40:5
 loop-holds : tie.Need-loop-holds Inv-loop μ-loop
 loop-holds c = search needs
 
--- src/stream.rt:41:28
 add-buffer : tie.Need-add-buffer Inv-loop μ-loop
 add-buffer c = search needs
 
--- src/stream.rt:41:21
 slice-read-buffer : tie.Need-slice-read-buffer Inv-loop μ-loop
 slice-read-buffer c = search needs
 
--- src/stream.rt:41:9
 slice-write-buffer : tie.Need-slice-write-buffer Inv-loop μ-loop
 slice-write-buffer c = search needs
 
--- src/stream.rt:42:9
 add-i : tie.Need-add-i Inv-loop μ-loop
 add-i c = search needs
 
--- src/stream.rt:40:5
 loop-less : tie.Need-loop-less Inv-loop μ-loop
 loop-less c = search needs
 
--- src/stream.rt:40:5
 loop-again : tie.Need-loop-again Inv-loop μ-loop
 loop-again c = search needs
 
--- src/stream.rt:36:1
 same-length : tie.Need-same-length Inv-loop μ-loop
 same-length c = search needs
 
--- src/stream.rt:36:1
 returns : tie.Need-returns Inv-loop μ-loop
 returns c = search needs
 

@@ -1,0 +1,84 @@
+use Prim.Native.Nat.{_^_}
+use Rattle.arguments.specs.Arguments.{helper-by}
+use native.Mathlib.Omega.{arith}
+use borrow.Author.Tests.{lt-ltb, le-ltb}
+use lib.Seq.{length-take-le}
+use mathlib.Core.Path.{_∙_, sym, refl}
+use borrow.Author.Needs.{needs}
+use Rattle.arguments.proofs.helper_of.Statement.{statement}
+use Rattle.arguments.proofs.helper_of.Tie as tie
+use Rattle.arguments.proofs.helper_of.Reads as reads
+use Rattle.arguments.proofs.helper_of.Lts as lts
+use Rattle.arguments.proofs.address_of.Reads as address-of-reads
+use Rattle.arguments.proofs.number_of.Reads as number-of-reads
+use Rattle.bytes.proofs.scan.find.Reads as find-reads
+
+-- src/lib.rt:154:9
+find-requires : tie.Need-find-requires
+find-requires c κs = search needs
+
+-- src/lib.rt:155:36
+slice-aggregate-number-of : tie.Need-slice-aggregate-number-of
+slice-aggregate-number-of c = simp (length-take-le, c .before .find .ensures .1)
+
+-- src/lib.rt:155:26
+number-of-requires : tie.Need-number-of-requires
+number-of-requires c κs = search needs
+
+-- src/lib.rt:155:20
+enum-known-id : tie.Need-enum-known-id
+enum-known-id c = search needs
+
+-- src/lib.rt:156:9
+enum-told : tie.Need-enum-told
+enum-told c = search needs
+
+-- src/lib.rt:156:9
+returns : tie.Need-returns
+returns c = helper-by _ _ _ _ (c .before .before .before .before .find .ensures .0) (sym (c .enum-told .given .1) ∙ c .before .before .number-of .ensures) refl
+
+-- src/lib.rt:158:31
+address-of-requires : tie.Need-address-of-requires
+address-of-requires c κs = search needs
+
+-- src/lib.rt:158:20
+enum-known-address : tie.Need-enum-known-address
+enum-known-address c = search needs
+
+-- src/lib.rt:159:9
+enum-told-2 : tie.Need-enum-told-2
+enum-told-2 c = search needs
+
+-- src/lib.rt:159:9
+returns-2 : tie.Need-returns-2
+returns-2 c = helper-by _ _ _ _ (c .before .before .before .before .before .before .before .before .find .ensures .0) (sym (c .before .before .before .before .id .given .1) ∙ c .before .before .before .before .before .before .number-of .ensures) (sym (c .enum-told2 .given .1) ∙ c .before .before .address-of .ensures)
+
+-- src/lib.rt:162:9
+returns-3 : tie.Need-returns-3
+returns-3 c = rw (le-ltb (c .before .before .before .before .before .before .id .given .0 .0) (2 ^ 32) (omega arith)) at (helper-by _ _ _ _ (c .before .before .before .before .before .before .before .before .before .before .find .ensures .0) (sym (c .before .before .before .before .before .before .id .given .1) ∙ c .before .before .before .before .before .before .before .before .number-of .ensures) (sym (c .before .before .address .given .1) ∙ c .before .before .before .before .address-of .ensures))
+
+-- src/lib.rt:164:20
+cast-t11 : tie.Need-cast-t11
+cast-t11 c = search needs
+
+-- src/lib.rt:151:1
+returns-4 : tie.Need-returns-4
+returns-4 c = rw (lt-ltb (c .before .before .before .before .before .before .id .given .0 .0) (2 ^ 32) (omega arith)) at (helper-by _ _ _ _ (c .before .before .before .before .before .before .before .before .before .before .find .ensures .0) (sym (c .before .before .before .before .before .before .id .given .1) ∙ c .before .before .before .before .before .before .before .before .number-of .ensures) (sym (c .before .before .address .given .1) ∙ c .before .before .before .before .address-of .ensures))
+
+pub helper-of-spec : {M : Type 1} → statement M
+helper-of-spec =
+    tie.close
+    (tie.spec
+    find-requires
+    slice-aggregate-number-of
+    number-of-requires
+    enum-known-id
+    enum-told
+    returns
+    address-of-requires
+    enum-known-address
+    enum-told-2
+    returns-2
+    returns-3
+    cast-t11
+    returns-4)

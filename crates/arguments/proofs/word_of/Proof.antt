@@ -1,0 +1,116 @@
+use borrow.Author.Tests.{eq-eqb, ne-eqb}
+use Rattle.arguments.specs.Arguments.{wordOf, first-none, first-some}
+use borrow.Author.Needs.{needs}
+use Rattle.arguments.proofs.word_of.Statement.{statement}
+use Rattle.arguments.proofs.word_of.Tie as tie
+use Rattle.arguments.proofs.word_of.Reads as reads
+use Rattle.arguments.proofs.word_of.Lts as lts
+use Rattle.arguments.proofs.is.Reads as is-reads
+
+-- src/lib.rt:44:17
+slice-aggregate-is : tie.Need-slice-aggregate-is
+slice-aggregate-is c = search needs
+
+-- src/lib.rt:44:8
+is-requires : tie.Need-is-requires
+is-requires c κs = search needs
+
+-- src/lib.rt:45:9
+returns : tie.Need-returns
+unfolding wordOf
+returns c = rw (← c .before .is .ensures, c .if1 .taken)
+
+-- src/lib.rt:47:17
+slice-aggregate-is-2 : tie.Need-slice-aggregate-is-2
+slice-aggregate-is-2 c = search needs
+
+-- src/lib.rt:47:8
+is-requires-2 : tie.Need-is-requires-2
+is-requires-2 c κs = search needs
+
+-- src/lib.rt:48:9
+returns-2 : tie.Need-returns-2
+unfolding wordOf
+returns-2 c = rw (← c .before .before .before .before .is .ensures, c .before .before .before .if1 .left, ← c .before .is2 .ensures, c .if2 .taken)
+
+-- src/lib.rt:50:17
+slice-aggregate-is-3 : tie.Need-slice-aggregate-is-3
+slice-aggregate-is-3 c = search needs
+
+-- src/lib.rt:50:8
+is-requires-3 : tie.Need-is-requires-3
+is-requires-3 c κs = search needs
+
+-- src/lib.rt:51:9
+returns-3 : tie.Need-returns-3
+unfolding wordOf
+returns-3 c = rw (← c .before .before .before .before .before .before .before .is .ensures, c .before .before .before .before .before .before .if1 .left, ← c .before .before .before .before .is2 .ensures, c .before .before .before .if2 .left, ← c .before .is3 .ensures, c .if3 .taken)
+
+-- src/lib.rt:53:17
+slice-aggregate-is-4 : tie.Need-slice-aggregate-is-4
+slice-aggregate-is-4 c = search needs
+
+-- src/lib.rt:53:8
+is-requires-4 : tie.Need-is-requires-4
+is-requires-4 c κs = search needs
+
+-- src/lib.rt:54:9
+returns-4 : tie.Need-returns-4
+unfolding wordOf
+returns-4 c = rw (← c .before .before .before .before .before .before .before .before .before .before .is .ensures, c .before .before .before .before .before .before .before .before .before .if1 .left, ← c .before .before .before .before .before .before .before .is2 .ensures, c .before .before .before .before .before .before .if2 .left, ← c .before .before .before .before .is3 .ensures, c .before .before .before .if3 .left, ← c .before .is4 .ensures, c .if4 .taken)
+
+-- src/lib.rt:56:17
+slice-aggregate-is-5 : tie.Need-slice-aggregate-is-5
+slice-aggregate-is-5 c = search needs
+
+-- src/lib.rt:56:8
+is-requires-5 : tie.Need-is-requires-5
+is-requires-5 c κs = search needs
+
+-- src/lib.rt:57:9
+returns-5 : tie.Need-returns-5
+unfolding wordOf
+returns-5 c = rw (← c .before .before .before .before .before .before .before .before .before .before .before .before .before .is .ensures, c .before .before .before .before .before .before .before .before .before .before .before .before .if1 .left, ← c .before .before .before .before .before .before .before .before .before .before .is2 .ensures, c .before .before .before .before .before .before .before .before .before .if2 .left, ← c .before .before .before .before .before .before .before .is3 .ensures, c .before .before .before .before .before .before .if3 .left, ← c .before .before .before .before .is4 .ensures, c .before .before .before .if4 .left, ← c .before .is5 .ensures, c .if5 .taken)
+
+-- src/lib.rt:60:9
+returns-6 : tie.Need-returns-6
+unfolding wordOf
+returns-6 c = rw (← c .before .before .before .before .before .before .before .before .before .before .before .before .before .before .is .ensures, c .before .before .before .before .before .before .before .before .before .before .before .before .before .if1 .left, ← c .before .before .before .before .before .before .before .before .before .before .before .is2 .ensures, c .before .before .before .before .before .before .before .before .before .before .if2 .left, ← c .before .before .before .before .before .before .before .before .is3 .ensures, c .before .before .before .before .before .before .before .if3 .left, ← c .before .before .before .before .before .is4 .ensures, c .before .before .before .before .if4 .left, ← c .before .before .is5 .ensures, c .before .if5 .left, first-none _ (c .if6 .taken))
+
+-- src/lib.rt:62:8
+shared-slice-read-if7 : tie.Need-shared-slice-read-if7
+shared-slice-read-if7 c = search needs
+
+-- src/lib.rt:63:9
+returns-7 : tie.Need-returns-7
+unfolding wordOf
+returns-7 c = rw (← c .before .before .before .before .before .before .before .before .before .before .before .before .before .before .before .before .is .ensures, c .before .before .before .before .before .before .before .before .before .before .before .before .before .before .before .if1 .left, ← c .before .before .before .before .before .before .before .before .before .before .before .before .before .is2 .ensures, c .before .before .before .before .before .before .before .before .before .before .before .before .if2 .left, ← c .before .before .before .before .before .before .before .before .before .before .is3 .ensures, c .before .before .before .before .before .before .before .before .before .if3 .left, ← c .before .before .before .before .before .before .before .is4 .ensures, c .before .before .before .before .before .before .if4 .left, ← c .before .before .before .before .is5 .ensures, c .before .before .before .if5 .left, first-some _ 0 (c .before .before .if6 .left), eq-eqb _ _ (c .if7 .taken))
+
+-- src/lib.rt:41:1
+returns-8 : tie.Need-returns-8
+unfolding wordOf
+returns-8 c = rw (← c .before .before .before .before .before .before .before .before .before .before .before .before .before .before .before .before .is .ensures, c .before .before .before .before .before .before .before .before .before .before .before .before .before .before .before .if1 .left, ← c .before .before .before .before .before .before .before .before .before .before .before .before .before .is2 .ensures, c .before .before .before .before .before .before .before .before .before .before .before .before .if2 .left, ← c .before .before .before .before .before .before .before .before .before .before .is3 .ensures, c .before .before .before .before .before .before .before .before .before .if3 .left, ← c .before .before .before .before .before .before .before .is4 .ensures, c .before .before .before .before .before .before .if4 .left, ← c .before .before .before .before .is5 .ensures, c .before .before .before .if5 .left, first-some _ 0 (c .before .before .if6 .left), ne-eqb _ _ (c .if7 .left))
+
+pub word-of-spec : {M : Type 1} → statement M
+word-of-spec =
+    tie.close
+    (tie.spec
+    slice-aggregate-is
+    is-requires
+    returns
+    slice-aggregate-is-2
+    is-requires-2
+    returns-2
+    slice-aggregate-is-3
+    is-requires-3
+    returns-3
+    slice-aggregate-is-4
+    is-requires-4
+    returns-4
+    slice-aggregate-is-5
+    is-requires-5
+    returns-5
+    returns-6
+    shared-slice-read-if7
+    returns-7
+    returns-8)

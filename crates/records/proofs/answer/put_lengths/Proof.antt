@@ -1,0 +1,84 @@
+use Rattle.records.specs.Answers.{acceptedHead}
+use Rattle.records.specs.Stored.{behind, number-run, byte-run}
+use Prim.Native.Nat.{_+_, _*_}
+use borrow.Author.Needs.{needs}
+use Rattle.records.proofs.answer.put_lengths.Statement.{statement}
+use Rattle.records.proofs.answer.put_lengths.Tie as tie
+
+add-total : tie.Need-add-total
+add-total c = search needs
+
+mul-total : tie.Need-mul-total
+mul-total c = search needs
+
+add-total-2 : tie.Need-add-total-2
+add-total-2 c = search needs
+
+mul-total-2 : tie.Need-mul-total-2
+mul-total-2 c = search needs
+
+add-total-3 : tie.Need-add-total-3
+add-total-3 c = search needs
+
+mul-total-3 : tie.Need-mul-total-3
+mul-total-3 c = search needs
+
+add-total-4 : tie.Need-add-total-4
+add-total-4 c = search needs
+
+cast-put-number : tie.Need-cast-put-number
+cast-put-number c = search needs
+
+put-number-requires : tie.Need-put-number-requires
+put-number-requires c κs = search needs
+
+put-byte-requires : tie.Need-put-byte-requires
+put-byte-requires c κs = search needs
+
+cast-put-number-2 : tie.Need-cast-put-number-2
+cast-put-number-2 c = search needs
+
+put-number-requires-2 : tie.Need-put-number-requires-2
+put-number-requires-2 c κs = search needs
+
+cast-put-number-3 : tie.Need-cast-put-number-3
+cast-put-number-3 c = search needs
+
+put-number-requires-3 : tie.Need-put-number-requires-3
+put-number-requires-3 c κs = search needs
+
+cast-put-number-4 : tie.Need-cast-put-number-4
+cast-put-number-4 c = search needs
+
+put-number-requires-4 : tie.Need-put-number-requires-4
+put-number-requires-4 c κs = search needs
+
+same-length : tie.Need-same-length
+same-length c = search needs
+
+returns : tie.Need-returns
+unfolding acceptedHead
+returns c = behind (number-run (13 + c .before .before .before .before .before .before .before .before .before .before .before .before .before .before .before .before .before .before .before .before .before .args .code + 4 * c .before .before .before .before .before .before .before .before .before .before .before .before .before .before .before .before .before .before .before .before .before .args .ends + 4 * c .before .before .before .before .before .before .before .before .before .before .before .before .before .before .before .before .before .before .before .before .before .args .jumps + 4 * c .before .before .before .before .before .before .before .before .before .before .before .before .before .before .before .before .before .before .before .before .before .args .targets) (c .before .before .before .before .before .before .before .before .before .before .before .before .before .before .before .before .before .before .put-number .ensures)) (behind (byte-run (c .before .before .before .before .before .before .before .before .before .before .before .before .before .before .put-byte .ensures)) (behind (number-run (c .before .before .before .before .before .before .before .before .before .before .before .before .before .before .before .before .before .before .before .before .before .args .code) (c .before .before .before .before .before .before .before .before .before .before .put-number2 .ensures)) (behind (number-run (c .before .before .before .before .before .before .before .before .before .before .before .before .before .before .before .before .before .before .before .before .before .args .jumps) (c .before .before .before .before .before .before .put-number3 .ensures)) (number-run (c .before .before .before .before .before .before .before .before .before .before .before .before .before .before .before .before .before .before .before .before .before .args .ends) (c .before .before .put-number4 .ensures)))))
+
+pub put-lengths-spec : {M : Type 1} → statement M
+put-lengths-spec =
+    tie.close
+    (tie.spec
+    add-total
+    mul-total
+    add-total-2
+    mul-total-2
+    add-total-3
+    mul-total-3
+    add-total-4
+    cast-put-number
+    put-number-requires
+    put-byte-requires
+    cast-put-number-2
+    put-number-requires-2
+    cast-put-number-3
+    put-number-requires-3
+    cast-put-number-4
+    put-number-requires-4
+    same-length
+    returns)

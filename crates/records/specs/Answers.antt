@@ -1,0 +1,80 @@
+-- The bytes of an answer, and the line that tells a refusal.
+-- Assumes nothing.
+use mathlib.Core.Path.{_≡_, _∙_, refl, ap}
+use mathlib.Core.Bool.{Bool, _&&_}
+use mathlib.Core.List.{List, [], _∷_, _++_}
+use Prim.Native.Nat.{ℕ, suc, _+_, _*_, _<_, min}
+use native.Mathlib.Omega.{arith}
+use lib.Dec.{leb}
+use lib.ListN.{length, length-append, getD, take, set}
+use lib.Seq.{sets, take-suc, length-take-le}
+use Rattle.base.specs.Lists.{sets-append}
+use Rattle.base.specs.Bytes.{le32}
+use Rattle.jit.specs.Refusals.{numberOf, slotOf}
+use Rattle.jit.specs.declared.Refusal.{Refusal}
+use Rattle.words.specs.Text.{ascii}
+use Rattle.words.specs.Forms.{formed}
+
+-- a record: in four bytes the length of the rest, and the rest
+unfoldable pub framed : List ℕ → List ℕ
+framed body = le32 (length body) ++ body
+
+-- refused: the number, the slot
+unfoldable pub refusedBytes : Refusal → List ℕ
+refusedBytes r = framed (numberOf r ∷ le32 (min (slotOf r) 4294967295))
+
+-- the entries of a table, four bytes each
+abbrev pub entries : List ℕ → List ℕ
+entries [] = []
+entries (x ∷ xs) = le32 x ++ entries xs
+
+-- accepted: 0; L, J and n + 1; the code; the locations, the jump fields and the jump targets
+unfoldable pub acceptedBytes : (code locations fields targets : List ℕ) → List ℕ
+acceptedBytes c l f t = framed (0 ∷ (le32 (length c) ++ (le32 (length f) ++ (le32 (length l) ++ (c ++ (entries l ++ (entries f ++ entries t)))))))
+
+-- its first 17 bytes, from the four lengths alone
+unfoldable pub acceptedHead : (code locations fields targets : ℕ) → List ℕ
+acceptedHead c l f t = le32 (13 + c + 4 * l + 4 * f + 4 * t) ++ (0 ∷ (le32 c ++ (le32 f ++ le32 l)))
+
+-- what there is room for: the longest answer, with the largest page and tables that are lent
+unfoldable pub acceptedFits : (out code locations fields targets : List ℕ) → Bool
+acceptedFits o c l f t = leb 180242 (length o) && (leb (length c) 131073 && (leb (length l) 4096 && (leb (length f) 4096 && leb (length t) 4096)))
+
+-- as `refused 6 0`
+unfoldable pub refusalLine : Refusal → List ℕ
+refusalLine r = formed (ascii "refused # #") (numberOf r ∷ slotOf r ∷ []) ++ (10 ∷ [])
+
+-- how many bytes, and one entry more
+pub length-entries : (xs : List ℕ) → length (entries xs) ≡ 4 * length xs
+length-entries [] = refl
+length-entries (x ∷ xs) = omega (arith, length-entries xs)
+
+entries-last : (xs : List ℕ) (y : ℕ) → entries (xs ++ (y ∷ [])) ≡ entries xs ++ le32 y
+entries-last [] y = refl
+entries-last (x ∷ xs) y = rw (entries-last xs y)
+
+pub entries-more : (xs : List ℕ) (i : ℕ) → i < length xs → entries (take i xs) ++ le32 (getD xs i 0) ≡ entries (take (i + 1) xs)
+entries-more xs i h = let e : i + 1 ≡ suc i = omega arith in rw (e, take-suc xs i 0 h, entries-last)
+
+pub entries-run : (l xs : List ℕ) (at i : ℕ) → i < length xs → sets (sets l at (entries (take i xs))) (at + 4 * i) (le32 (getD xs i 0)) ≡ sets l at (entries (take (i + 1) xs))
+entries-run l xs at i h =
+    let n : length (entries (take i xs)) ≡ 4 * i = length-entries (take i xs) ∙ ap (λ (k : ℕ). 4 * k) (length-take-le i xs (omega arith)) in
+    rw (← n, sets-append l at (entries (take i xs)) (le32 (getD xs i 0)), entries-more xs i h)
+
+pub code-run : (l xs : List ℕ) (at i : ℕ) → i < length xs → set (sets l at (take i xs)) (at + i) (getD xs i 0) ≡ sets l at (take (i + 1) xs)
+code-run l xs at i h =
+    let e : i + 1 ≡ suc i = omega arith in
+    let n : length (take i xs) ≡ i = length-take-le i xs (omega arith) in
+    let s : sets (sets l at (take i xs)) (at + length (take i xs)) (getD xs i 0 ∷ []) ≡ sets l at (take i xs ++ (getD xs i 0 ∷ [])) = sets-append l at (take i xs) (getD xs i 0 ∷ []) in
+    rw (e, take-suc xs i 0 h) (rw n at s)
+
+pub length-head : (c l f t : ℕ) → length (acceptedHead c l f t) ≡ 17
+unfolding acceptedHead
+length-head c l f t = refl
+
+pub accepted-parts : (c l f t : List ℕ) → acceptedHead (length c) (length l) (length f) (length t) ++ (c ++ (entries l ++ (entries f ++ entries t))) ≡ acceptedBytes c l f t
+unfolding acceptedHead acceptedBytes framed
+accepted-parts c l f t =
+    let rest = c ++ (entries l ++ (entries f ++ entries t)) in
+    let e : 13 + length c + 4 * length l + 4 * length f + 4 * length t ≡ length (0 ∷ (le32 (length c) ++ (le32 (length f) ++ (le32 (length l) ++ rest)))) = omega (arith, length-append c (entries l ++ (entries f ++ entries t)), length-append (entries l) (entries f ++ entries t), length-append (entries f) (entries t), length-entries l, length-entries f, length-entries t) in
+    rw e

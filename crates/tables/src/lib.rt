@@ -1,0 +1,76 @@
+// What becomes of a program: its slots, the machine instructions of each as the proved reader reads them from the translated bytes, and
+// where it jumps; or its slots up to the one that is refused, and the reason. All on standard output, but for the reason, which goes where
+// the caller says.
+mod table;
+
+use jit::Flags;
+use jit::Refusal;
+use lines::LINE;
+use table::Totals;
+use translator::translate::Answer;
+use translator::translate::translate;
+
+const EPILOGUE: usize = 16;
+
+// Refusals below 6 are of no slot.
+fn list_until(prog: &[u8], number: u8, slot: usize) {
+    if number < 6 {
+        return;
+    }
+    lines::list_slots(prog, slot);
+}
+
+fn list_refused(prog: &[u8], refusal: Refusal, reason: i32) {
+    let mut line = [0u8; LINE];
+    let number = refusals::number_of(refusal);
+    let slot = refusals::slot_of(refusal);
+    list_until(prog, number, slot);
+    let end = sentences::sentence(prog, number, slot, &mut line);
+    lines::write_line(reason, &mut line, end);
+}
+
+fn exit_of(length: usize) -> usize {
+    if length < EPILOGUE {
+        return 0;
+    }
+    length - EPILOGUE
+}
+
+// The program, translated into what is lent, and the table of it. The answer is the translator's; a refusal's sentence goes to the
+// descriptor `reason`.
+pub fn list_filter(
+    prog: &[u8],
+    flags: Flags,
+    ids: &[u32],
+    addresses: &[u64],
+    page: &mut [u8],
+    locations: &mut [u32],
+    fields: &mut [u32],
+    targets: &mut [u32],
+    reason: i32,
+) -> Answer {
+    let answer = translate(
+        prog,
+        flags,
+        ids,
+        addresses,
+        page,
+        locations,
+        fields,
+        targets,
+    );
+    match answer {
+        Answer::Refused(refusal) => list_refused(prog, refusal, reason),
+        Answer::Accepted { length, jumps } => {
+            let totals = Totals {
+                slots: prog.len() / 8,
+                length: length,
+                jumps: jumps,
+                page: page.len(),
+                exit: exit_of(length),
+            };
+            table::list_page(prog, page, locations, fields, targets, totals);
+        }
+    }
+    answer
+}
