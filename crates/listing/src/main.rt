@@ -1,26 +1,29 @@
 // Lists what becomes of the bytecode in a file or on standard input: each slot, its place in the page, its machine instructions and where it
 // jumps. A refused program gets its slots up to the refusal; the reason goes to standard error.
 ghost use mathlib.Core.Path.{_≡_};
-ghost use Prim.Native.Nat.{_≤_};
+ghost use Prim.Native.Nat.{_+_, _≤_};
 ghost use lib.ListN.{length};
+ghost use Rattle.jit.specs.Limits.{longestPage};
 
 mod options;
 
 use jit::Flags;
+use jit::LONGEST_PROGRAM;
+use jit::MOST_HELPERS;
+use jit::MOST_SLOTS;
 use libc::STDERR_FILENO;
 use libc::STDIN_FILENO;
 use libc::STDOUT_FILENO;
 use options::LARGEST;
-use options::MOST_HELPERS;
 use options::Options;
 use records::stream;
 use records::stream::Window;
 use tables::list_filter;
 
 // One byte more than a program may have: a longer one is refused for it, however long it is.
-const INPUT: usize = 16385;
+const INPUT: usize = LONGEST_PROGRAM + 1;
 // An entry for each slot that the input can hold, and one.
-const TABLE: usize = 2049;
+const TABLE: usize = MOST_SLOTS + 1;
 
 fn explain() {
     io::write_all(
@@ -92,7 +95,7 @@ fn read_program(file: usize, input: &mut [u8]) -> Window
 
 // Of the page the first bytes are lent, as many as the options say.
 fn list_lent(program: &[u8], options: Options, ids: &[u32], addresses: &[u64])
-    requires { ⌜ options .page ≤ 131073 ⌝ }
+    requires { ⌜ options .page ≤ longestPage + 1 ⌝ }
 {
     let flags = Flags {
         use_mbuff: options.use_mbuff,
@@ -117,7 +120,7 @@ fn list_lent(program: &[u8], options: Options, ids: &[u32], addresses: &[u64])
 }
 
 fn list(options: Options, ids: &[u32], addresses: &[u64])
-    requires { ⌜ options .page ≤ 131073 ⌝ }
+    requires { ⌜ options .page ≤ longestPage + 1 ⌝ }
 {
     let mut input = [0u8; INPUT];
     let read = read_program(options.file, &mut input);

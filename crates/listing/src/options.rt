@@ -1,21 +1,20 @@
 // What the arguments ask for. A word that is not known, and a number or a helper that is none, get a sentence on standard error.
 ghost use mathlib.Core.Path.{_≡_};
-ghost use Prim.Native.Nat.{_≤_};
+ghost use Prim.Native.Nat.{_+_, _≤_};
 ghost use lib.ListN.{length};
+ghost use Rattle.jit.specs.Limits.{longestPage};
 use arguments::Helper;
 use arguments::Number;
 use arguments::Word;
 use arguments::helper_of;
 use arguments::number_of;
 use arguments::word_of;
+use jit::LONGEST_PAGE;
+use jit::SHORTEST_PAGE;
 use libc::STDERR_FILENO;
 
 // One byte more than a page may have: a longer one is refused for it, however long it is.
-pub const LARGEST: usize = 131073;
-
-const SMALLEST: usize = 4096;
-
-pub const MOST_HELPERS: usize = 256;
+pub const LARGEST: usize = LONGEST_PAGE + 1;
 
 pub struct Options {
     pub use_mbuff: bool,
@@ -50,7 +49,7 @@ fn wronged(options: Options, what: &[u8], word: &[u8]) -> Options
 
 // What is above the largest page stays there.
 fn clamped(n: u64) -> usize
-    ensures { λ r. ⌜ r ≤ 131073 ⌝ }
+    ensures { λ r. ⌜ r ≤ longestPage + 1 ⌝ }
 {
     if n < LARGEST as u64 {
         return n as usize;
@@ -59,8 +58,8 @@ fn clamped(n: u64) -> usize
 }
 
 fn with_page(options: Options, word: &[u8]) -> Options
-    requires { ⌜ options .page ≤ 131073 ⌝ }
-    ensures { λ r. ⌜ (r .page ≤ 131073) × (r .helpers ≡ options .helpers) ⌝ }
+    requires { ⌜ options .page ≤ longestPage + 1 ⌝ }
+    ensures { λ r. ⌜ (r .page ≤ longestPage + 1) × (r .helpers ≡ options .helpers) ⌝ }
 {
     let mut changed = options;
     changed.page_next = false;
@@ -80,8 +79,8 @@ fn with_listed(
     ids: &mut [u32],
     addresses: &mut [u64],
 ) -> Options
-    requires { ⌜ (options .page ≤ 131073) × ((options .helpers ≤ length (now ids)) × (options .helpers ≤ length (now addresses))) ⌝ }
-    ensures { λ r. ⌜ (r .page ≤ 131073) × ((r .helpers ≤ length (now (ids .exit))) × (r .helpers ≤ length (now (addresses .exit)))) ⌝ }
+    requires { ⌜ (options .page ≤ longestPage + 1) × ((options .helpers ≤ length (now ids)) × (options .helpers ≤ length (now addresses))) ⌝ }
+    ensures { λ r. ⌜ (r .page ≤ longestPage + 1) × ((r .helpers ≤ length (now (ids .exit))) × (r .helpers ≤ length (now (addresses .exit)))) ⌝ }
 {
     let at = options.helpers;
     if ids.len() <= at {
@@ -98,8 +97,8 @@ fn with_listed(
 }
 
 fn with_helper(options: Options, word: &[u8], ids: &mut [u32], addresses: &mut [u64]) -> Options
-    requires { ⌜ (options .page ≤ 131073) × ((options .helpers ≤ length (now ids)) × (options .helpers ≤ length (now addresses))) ⌝ }
-    ensures { λ r. ⌜ (r .page ≤ 131073) × ((r .helpers ≤ length (now (ids .exit))) × (r .helpers ≤ length (now (addresses .exit)))) ⌝ }
+    requires { ⌜ (options .page ≤ longestPage + 1) × ((options .helpers ≤ length (now ids)) × (options .helpers ≤ length (now addresses))) ⌝ }
+    ensures { λ r. ⌜ (r .page ≤ longestPage + 1) × ((r .helpers ≤ length (now (ids .exit))) × (r .helpers ≤ length (now (addresses .exit)))) ⌝ }
 {
     let mut changed = options;
     changed.helper_next = false;
@@ -162,8 +161,8 @@ fn with_word(
     ids: &mut [u32],
     addresses: &mut [u64],
 ) -> Options
-    requires { ⌜ (options .page ≤ 131073) × ((options .helpers ≤ length (now ids)) × (options .helpers ≤ length (now addresses))) ⌝ }
-    ensures { λ r. ⌜ (r .page ≤ 131073) × ((r .helpers ≤ length (now (ids .exit))) × (r .helpers ≤ length (now (addresses .exit)))) ⌝ }
+    requires { ⌜ (options .page ≤ longestPage + 1) × ((options .helpers ≤ length (now ids)) × (options .helpers ≤ length (now addresses))) ⌝ }
+    ensures { λ r. ⌜ (r .page ≤ longestPage + 1) × ((r .helpers ≤ length (now (ids .exit))) × (r .helpers ≤ length (now (addresses .exit)))) ⌝ }
 {
     if options.page_next {
         return with_page(options, word);
@@ -176,8 +175,8 @@ fn with_word(
 
 // The argument `index`, which is read here; one that is too long to read is no option, no number and no file.
 fn with_argument(options: Options, index: usize, ids: &mut [u32], addresses: &mut [u64]) -> Options
-    requires { ⌜ (options .page ≤ 131073) × ((options .helpers ≤ length (now ids)) × (options .helpers ≤ length (now addresses))) ⌝ }
-    ensures { λ r. ⌜ (r .page ≤ 131073) × ((r .helpers ≤ length (now (ids .exit))) × (r .helpers ≤ length (now (addresses .exit)))) ⌝ }
+    requires { ⌜ (options .page ≤ longestPage + 1) × ((options .helpers ≤ length (now ids)) × (options .helpers ≤ length (now addresses))) ⌝ }
+    ensures { λ r. ⌜ (r .page ≤ longestPage + 1) × ((r .helpers ≤ length (now (ids .exit))) × (r .helpers ≤ length (now (addresses .exit)))) ⌝ }
 {
     let mut word = io::buffer();
     let n = os::arg(index, &mut word);
@@ -203,13 +202,13 @@ fn complete(options: Options) -> Options
 // What the arguments say is the operating system's; the page is one that there is room for, and the helpers stand at the start of `ids`
 // and `addresses`.
 pub fn read_options(ids: &mut [u32], addresses: &mut [u64]) -> Options
-    ensures { λ r. ⌜ (r .page ≤ 131073) × ((r .helpers ≤ length (now (ids .exit))) × (r .helpers ≤ length (now (addresses .exit)))) ⌝ }
+    ensures { λ r. ⌜ (r .page ≤ longestPage + 1) × ((r .helpers ≤ length (now (ids .exit))) × (r .helpers ≤ length (now (addresses .exit)))) ⌝ }
 {
     let count = os::arg_count();
     let mut options = Options {
         use_mbuff: false,
         update_data_ptr: false,
-        page: SMALLEST,
+        page: SHORTEST_PAGE,
         file: 0,
         helpers: 0,
         help: false,

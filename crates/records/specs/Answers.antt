@@ -14,6 +14,7 @@ use Rattle.jit.specs.Refusals.{numberOf, slotOf}
 use Rattle.jit.specs.declared.Refusal.{Refusal}
 use Rattle.words.specs.Text.{ascii}
 use Rattle.words.specs.Forms.{formed}
+use Rattle.records.specs.Limits.{lentPage, lentTable, longestAnswer}
 
 -- a record: in four bytes the length of the rest, and the rest
 unfoldable pub framed : List ℕ → List ℕ
@@ -38,7 +39,7 @@ acceptedHead c l f t = le32 (13 + c + 4 * l + 4 * f + 4 * t) ++ (0 ∷ (le32 c +
 
 -- what there is room for: the longest answer, with the largest page and tables that are lent
 unfoldable pub acceptedFits : (out code locations fields targets : List ℕ) → Bool
-acceptedFits o c l f t = leb 180242 (length o) && (leb (length c) 131073 && (leb (length l) 4096 && (leb (length f) 4096 && leb (length t) 4096)))
+acceptedFits o c l f t = leb longestAnswer (length o) && (leb (length c) lentPage && (leb (length l) lentTable && (leb (length f) lentTable && leb (length t) lentTable)))
 
 -- as `refused 6 0`
 unfoldable pub refusalLine : Refusal → List ℕ

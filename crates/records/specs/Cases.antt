@@ -17,6 +17,7 @@ use Rattle.ebpf.specs.Insn.{le4}
 use Rattle.problems.specs.Problems.{problemNumber}
 use Rattle.problems.specs.declared.Problem.{Problem}
 use Rattle.problems.specs.declared.Problem.the-variants.{Nothing, OtherFlags, ManyIds, ManyAddresses, LongProgram, Unfilled}
+use Rattle.records.specs.Limits.{longestOfCase}
 use Rattle.records.specs.declared.parts.Case.{Case}
 
 -- how many ids, and where the addresses begin; how many of those, and where the program begins
@@ -54,7 +55,7 @@ checks b mostIds mostAddresses =
     ∷ ltb (length b) (addressesAt b) ⊘ Unfilled
     ∷ ltb mostAddresses (addressesIn b) ⊘ ManyAddresses
     ∷ ltb (length b) (programAt b) ⊘ Unfilled
-    ∷ ltb 32768 (programIn b) ⊘ LongProgram
+    ∷ ltb longestOfCase (programIn b) ⊘ LongProgram
     ∷ not (eqb (length b - programAt b) (programIn b)) ⊘ Unfilled
     ∷ []
 

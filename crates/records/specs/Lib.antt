@@ -1,3 +1,4 @@
+pub mod Limits
 pub mod Stored
 pub mod Answers
 pub mod Cases

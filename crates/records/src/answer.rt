@@ -8,6 +8,7 @@ ghost use Rattle.words.specs.Text.{Says};
 ghost use Rattle.base.specs.Bytes.{le32};
 ghost use Rattle.records.specs.Stored.{Stored, Put};
 ghost use Rattle.records.specs.Answers.{refusedBytes, entries, acceptedHead, acceptedBytes, acceptedFits, refusalLine};
+ghost use Rattle.records.specs.Limits.{lentPage, lentTable};
 use crate::limits;
 use crate::numbers;
 use jit::Refusal;
@@ -75,7 +76,7 @@ pub fn put_refused(out: &mut [u8], refusal: Refusal) -> usize
 
 // What stands in front of the code: the length of the rest, and how much there is of each part.
 fn put_lengths(out: &mut [u8], code: usize, ends: usize, jumps: usize, targets: usize) -> usize
-    requires { ⌜ (17 ≤ length (now out)) × ((code ≤ 131073) × ((ends ≤ 4096) × ((jumps ≤ 4096) × (targets ≤ 4096)))) ⌝ }
+    requires { ⌜ (17 ≤ length (now out)) × ((code ≤ lentPage) × ((ends ≤ lentTable) × ((jumps ≤ lentTable) × (targets ≤ lentTable)))) ⌝ }
     ensures { λ r. ⌜ Put (now (out .entry)) (now (out .exit)) 0 r (acceptedHead code ends jumps targets) ⌝ }
 {
     let total = 13 + code + 4 * ends + 4 * jumps + 4 * targets;

@@ -1,7 +1,9 @@
 // How much a case may hold and how much is lent. One place more than the translator takes stands for every longer page and table.
 
+use jit::LONGEST_PAGE;
+
 // Bytes of code and entries of a table that are lent at most.
-pub const PAGE: usize = 131073;
+pub const PAGE: usize = LONGEST_PAGE + 1;
 
 pub const TABLE: usize = 4096;
 
@@ -10,7 +12,7 @@ pub const HELPERS: usize = 512;
 
 pub const PROGRAM: usize = 32768;
 
-pub const CASE: usize = 38941;
+pub const CASE: usize = 29 + 12 * HELPERS + PROGRAM;
 
 // No answer is longer: 17 bytes in front, the page and three tables.
-pub const ANSWER: usize = 180242;
+pub const ANSWER: usize = 17 + PAGE + 12 * TABLE;

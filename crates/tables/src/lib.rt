@@ -3,14 +3,13 @@
 // the caller says.
 mod table;
 
+use jit::EPILOGUE_SIZE;
 use jit::Flags;
 use jit::Refusal;
 use lines::LINE;
 use table::Totals;
 use translator::translate::Answer;
 use translator::translate::translate;
-
-const EPILOGUE: usize = 16;
 
 // Refusals below 6 are of no slot.
 fn list_until(prog: &[u8], number: u8, slot: usize) {
@@ -30,10 +29,10 @@ fn list_refused(prog: &[u8], refusal: Refusal, reason: i32) {
 }
 
 fn exit_of(length: usize) -> usize {
-    if length < EPILOGUE {
+    if length < EPILOGUE_SIZE {
         return 0;
     }
-    length - EPILOGUE
+    length - EPILOGUE_SIZE
 }
 
 // The program, translated into what is lent, and the table of it. The answer is the translator's; a refusal's sentence goes to the

@@ -4,6 +4,7 @@ use assembler::put_slot;
 use instructions::Instruction;
 use instructions::Read;
 use intel::text::put_instruction;
+use jit::ANCHOR;
 use lines::BYTECODE;
 use lines::LINE;
 use lines::finish;
@@ -22,9 +23,6 @@ const DESTINATION: usize = 54;
 const BYTES: usize = 12;
 
 const INSTRUCTION: usize = 44;
-
-// What stands for the exit among the targets of jumps.
-const EXIT: usize = 1000001;
 
 // What the translator answered of the page.
 pub struct Totals {
@@ -140,7 +138,7 @@ fn put_destination(
     exit: usize,
 ) -> usize {
     let next = put_padding(line, at, DESTINATION);
-    if target == EXIT {
+    if target == wide(ANCHOR) {
         return put_form(line, next, b" -> the exit at 0x$", &[exit as u64]);
     }
     let location = entry(locations, target);

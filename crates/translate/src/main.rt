@@ -1,7 +1,10 @@
 // Translates the bytecode on standard input for a page of 4,096 bytes, with no helpers and both flags false, and writes the code to
 // standard output. A refusal writes nothing there and a line on standard error, as `refused 6 0`: its number and its slot.
 use jit::Flags;
+use jit::LONGEST_PROGRAM;
+use jit::MOST_SLOTS;
 use jit::Refusal;
+use jit::SHORTEST_PAGE;
 use libc::STDERR_FILENO;
 use libc::STDIN_FILENO;
 use libc::STDOUT_FILENO;
@@ -11,11 +14,9 @@ use translator::translate::Answer;
 use translator::translate::translate;
 
 // One byte more than a program may have: a longer one is refused for it, however long it is.
-const INPUT: usize = 16385;
-
-const PAGE: usize = 4096;
+const INPUT: usize = LONGEST_PROGRAM + 1;
 // An entry for each slot that the input can hold, and one.
-const TABLE: usize = 2049;
+const TABLE: usize = MOST_SLOTS + 1;
 
 fn report(refusal: Refusal) {
     let mut line = [0u8; 48];
@@ -37,7 +38,7 @@ fn write_code(page: &[u8], length: usize) {
 }
 
 fn answer(program: &[u8]) {
-    let mut page = [0u8; PAGE];
+    let mut page = [0u8; SHORTEST_PAGE];
     let mut locations = [0u32; TABLE];
     let mut fields = [0u32; TABLE];
     let mut targets = [0u32; TABLE];

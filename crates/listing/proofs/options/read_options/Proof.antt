@@ -1,12 +1,13 @@
 use lib.ListN.{length}
 use mathlib.Core.Path.{_≡_}
-use Prim.Native.Nat.{_≤_, _-_}
+use Prim.Native.Nat.{_+_, _≤_, _-_}
 use borrow.Author.Needs.{needs}
+use Rattle.jit.specs.Limits.{longestPage}
 use Rattle.listing.proofs.options.read_options.Statement.{statement}
 use Rattle.listing.proofs.options.read_options.Tie as tie
 
 abbrev Inv-loop : tie.InvT-loop
-Inv-loop ids₀ addresses₀ count options₀ i₀ ids addresses options i = (1 ≤ i) × ((options .page ≤ 131073) × ((options .helpers ≤ length ids) × ((options .helpers ≤ length addresses) × ((length ids ≡ length ids₀) × (length addresses ≡ length addresses₀)))))
+Inv-loop ids₀ addresses₀ count options₀ i₀ ids addresses options i = (1 ≤ i) × ((options .page ≤ longestPage + 1) × ((options .helpers ≤ length ids) × ((options .helpers ≤ length addresses) × ((length ids ≡ length ids₀) × (length addresses ≡ length addresses₀)))))
 
 abbrev μ-loop : tie.MeasureT-loop
 μ-loop ids₀ addresses₀ count options₀ i₀ ids addresses options i = count - i
