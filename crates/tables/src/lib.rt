@@ -1,6 +1,10 @@
 // What becomes of a program: its slots, the machine instructions of each as the proved reader reads them from the translated bytes, and
 // where it jumps; or its slots up to the one that is refused, and the reason. All on standard output, but for the reason, which goes where
 // the caller says.
+ghost use lib.ListN.{length};
+ghost use Rattle.jit.specs.Translation.{Inputs, translationOf};
+ghost use Rattle.translator.specs.Translated.{Translated};
+
 mod table;
 
 use jit::EPILOGUE_SIZE;
@@ -35,8 +39,8 @@ fn exit_of(length: usize) -> usize {
     length - EPILOGUE_SIZE
 }
 
-// The program, translated into what is lent, and the table of it. The answer is the translator's; a refusal's sentence goes to the
-// descriptor `reason`.
+// The program, translated into what is lent, and the table of it. The answer, and what is left in what is lent, are the translator's; a
+// refusal's sentence goes to the descriptor `reason`.
 pub fn list_filter(
     prog: &[u8],
     flags: Flags,
@@ -47,7 +51,9 @@ pub fn list_filter(
     fields: &mut [u32],
     targets: &mut [u32],
     reason: i32,
-) -> Answer {
+) -> Answer
+    ensures { λ r. ⌜ Translated (translationOf (record { program = now (prog .entry); flags = flags; ids = now (ids .entry); addresses = now (addresses .entry); page = length (now (page .entry)); locations = length (now (locations .entry)); fields = length (now (fields .entry)); targets = length (now (targets .entry)) })) (now (page .entry)) (now (page .exit)) (now (locations .entry)) (now (locations .exit)) (now (fields .entry)) (now (fields .exit)) (now (targets .entry)) (now (targets .exit)) r ⌝ }
+{
     let answer = translate(
         prog,
         flags,
