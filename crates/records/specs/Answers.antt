@@ -77,5 +77,14 @@ pub accepted-parts : (c l f t : List ℕ) → acceptedHead (length c) (length l)
 unfolding acceptedHead acceptedBytes framed
 accepted-parts c l f t =
     let rest = c ++ (entries l ++ (entries f ++ entries t)) in
-    let e : 13 + length c + 4 * length l + 4 * length f + 4 * length t ≡ length (0 ∷ (le32 (length c) ++ (le32 (length f) ++ (le32 (length l) ++ rest)))) = omega (arith, length-append c (entries l ++ (entries f ++ entries t)), length-append (entries l) (entries f ++ entries t), length-append (entries f) (entries t), length-entries l, length-entries f, length-entries t) in
+    let e : 13 + length c + 4 * length l + 4 * length f + 4 * length t ≡ length (0 ∷ (le32 (length c) ++ (le32 (length f) ++ (le32 (length l) ++ rest)))) =
+    omega (
+      arith,
+      length-append c (entries l ++ (entries f ++ entries t)),
+      length-append (entries l) (entries f ++ entries t),
+      length-append (entries f) (entries t),
+      length-entries l,
+      length-entries f,
+      length-entries t,
+    ) in
     rw e

@@ -47,7 +47,8 @@ module _ (l l′ : List ℕ) (r : ℕ) (room : 9 ≤ length l) (s : Stored (leb 
   no-refusal-put e = let n : r ≡ 9 = rw (le-leb 9 (length l) room) at (s .size) in omega (arith, e, n)
 
 -- put_accepted, of one byte of code, two locations and one jump: J where n + 1 stands; the code left out
-module _ (l l′ : List ℕ) (r : ℕ) (fits : acceptedFits l (195 ∷ []) (34 ∷ 35 ∷ []) (30 ∷ []) (1 ∷ []) ≡ true) (s : Stored (acceptedFits l (195 ∷ []) (34 ∷ 35 ∷ []) (30 ∷ []) (1 ∷ [])) l l′ r (acceptedBytes (195 ∷ []) (34 ∷ 35 ∷ []) (30 ∷ []) (1 ∷ []))) where
+module _ (l l′ : List ℕ) (r : ℕ) (fits : acceptedFits l (195 ∷ []) (34 ∷ 35 ∷ []) (30 ∷ []) (1 ∷ []) ≡ true)
+    (s : Stored (acceptedFits l (195 ∷ []) (34 ∷ 35 ∷ []) (30 ∷ []) (1 ∷ [])) l l′ r (acceptedBytes (195 ∷ []) (34 ∷ 35 ∷ []) (30 ∷ []) (1 ∷ []))) where
   pub counts-swapped : getD l′ 9 0 ≡ 2 → ⊥
   unfolding acceptedBytes framed
   counts-swapped e = let b = byte-at _ fits s 9 (omega arith) in omega (arith, e, b)

@@ -96,7 +96,10 @@ pub fn put_accepted(
     fields: &[u32],
     targets: &[u32],
 ) -> usize
-    ensures { λ r. ⌜ Stored (acceptedFits (now (out .entry)) (now (code .entry)) (now (locations .entry)) (now (fields .entry)) (now (targets .entry))) (now (out .entry)) (now (out .exit)) r (acceptedBytes (now (code .entry)) (now (locations .entry)) (now (fields .entry)) (now (targets .entry))) ⌝ }
+    ensures { λ r. ⌜ Stored
+        (acceptedFits (now (out .entry)) (now (code .entry)) (now (locations .entry)) (now (fields .entry)) (now (targets .entry)))
+        (now (out .entry)) (now (out .exit)) r
+        (acceptedBytes (now (code .entry)) (now (locations .entry)) (now (fields .entry)) (now (targets .entry))) ⌝ }
 {
     if out.len() < limits::ANSWER {
         return 0;

@@ -27,11 +27,28 @@ add-result c = search needs
 
 returns-4 : tie.Need-returns-4
 unfolding digitOf
-returns-4 c = (rw (le-ltb _ _ (c .before .before .before .if1 .left), lt-leb _ _ (c .before .before .if2 .left), le-ltb _ _ (c .before .if3 .left), le-leb _ _ (c .if4 .taken)), search needs)
+returns-4 c = (
+  rw (
+    le-ltb _ _ (c .before .before .before .if1 .left),
+    lt-leb _ _ (c .before .before .if2 .left),
+    le-ltb _ _ (c .before .if3 .left),
+    le-leb _ _ (c .if4 .taken),
+  ),
+  search needs,
+)
 
 returns-5 : tie.Need-returns-5
 unfolding digitOf
-returns-5 c = (rw (le-ltb _ _ (c .before .before .before .before .if1 .left), lt-leb _ _ (c .before .before .before .if2 .left), le-ltb _ _ (c .before .before .if3 .left), lt-leb _ _ (c .before .if4 .left), lt-ltb _ _ (c .if5 .taken)), search needs)
+returns-5 c = (
+  rw (
+    le-ltb _ _ (c .before .before .before .before .if1 .left),
+    lt-leb _ _ (c .before .before .before .if2 .left),
+    le-ltb _ _ (c .before .before .if3 .left),
+    lt-leb _ _ (c .before .if4 .left),
+    lt-ltb _ _ (c .if5 .taken),
+  ),
+  search needs,
+)
 
 cast-result-3 : tie.Need-cast-result-3
 cast-result-3 c = search needs
@@ -41,11 +58,31 @@ add-result-2 c = search needs
 
 returns-6 : tie.Need-returns-6
 unfolding digitOf
-returns-6 c = (rw (le-ltb _ _ (c .before .before .before .before .before .if1 .left), lt-leb _ _ (c .before .before .before .before .if2 .left), le-ltb _ _ (c .before .before .before .if3 .left), lt-leb _ _ (c .before .before .if4 .left), le-ltb _ _ (c .before .if5 .left), le-leb _ _ (c .if6 .taken)), search needs)
+returns-6 c = (
+  rw (
+    le-ltb _ _ (c .before .before .before .before .before .if1 .left),
+    lt-leb _ _ (c .before .before .before .before .if2 .left),
+    le-ltb _ _ (c .before .before .before .if3 .left),
+    lt-leb _ _ (c .before .before .if4 .left),
+    le-ltb _ _ (c .before .if5 .left),
+    le-leb _ _ (c .if6 .taken),
+  ),
+  search needs,
+)
 
 returns-7 : tie.Need-returns-7
 unfolding digitOf
-returns-7 c = (rw (le-ltb _ _ (c .before .before .before .before .before .if1 .left), lt-leb _ _ (c .before .before .before .before .if2 .left), le-ltb _ _ (c .before .before .before .if3 .left), lt-leb _ _ (c .before .before .if4 .left), le-ltb _ _ (c .before .if5 .left), lt-leb _ _ (c .if6 .left)), search needs)
+returns-7 c = (
+  rw (
+    le-ltb _ _ (c .before .before .before .before .before .if1 .left),
+    lt-leb _ _ (c .before .before .before .before .if2 .left),
+    le-ltb _ _ (c .before .before .before .if3 .left),
+    lt-leb _ _ (c .before .before .if4 .left),
+    le-ltb _ _ (c .before .if5 .left),
+    lt-leb _ _ (c .if6 .left),
+  ),
+  search needs,
+)
 
 pub digit-of-spec : {M : Type 1} → statement M
 digit-of-spec =

@@ -36,7 +36,11 @@ enum-told : tie.Need-enum-told Inv-loop μ-loop
 enum-told c = search needs
 
 returns-2 : tie.Need-returns-2 Inv-loop μ-loop
-returns-2 c = sym (digit-bad _ _ _ _ _ (c .before .before .before .before .before .loop-test .taken) (c .before .before .before .digit-of .ensures .0) (sym (c .enum-told .given .1) ∙ c .before .before .grown .ensures)) ∙ c .before .before .before .before .before .before .loop .inv .1
+returns-2 c =
+    let read = c .before .before .before in
+    let tested = read .before .before in
+    let none = sym (c .enum-told .given .1) ∙ c .before .before .grown .ensures in
+    sym (digit-bad _ _ _ _ _ (tested .loop-test .taken) (read .digit-of .ensures .0) none) ∙ tested .before .loop .inv .1
 
 add-i : tie.Need-add-i Inv-loop μ-loop
 add-i c = search needs
@@ -45,7 +49,11 @@ loop-less : tie.Need-loop-less Inv-loop μ-loop
 loop-less c = search needs
 
 loop-again : tie.Need-loop-again Inv-loop μ-loop
-loop-again c = (omega arith, sym (digit-read _ _ _ _ _ _ (c .before .before .before .before .before .before .loop-test .taken) (c .before .before .before .before .digit-of .ensures .0) (sym (c .before .more .given .1) ∙ c .before .before .before .grown .ensures)) ∙ c .before .before .before .before .before .before .before .loop .inv .1)
+loop-again c =
+    let read = c .before .before .before .before in
+    let tested = read .before .before in
+    let more = sym (c .before .more .given .1) ∙ c .before .before .before .grown .ensures in
+    (omega arith, sym (digit-read _ _ _ _ _ _ (tested .loop-test .taken) (read .digit-of .ensures .0) more) ∙ tested .before .loop .inv .1)
 
 returns-3 : tie.Need-returns-3 Inv-loop μ-loop
 returns-3 c = sym (read-end _ _ _ _ (c .loop-test .left)) ∙ c .before .loop .inv .1

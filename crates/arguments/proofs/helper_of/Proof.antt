@@ -51,11 +51,24 @@ enum-told-2 c = search needs
 
 -- src/lib.rt:159:9
 returns-2 : tie.Need-returns-2
-returns-2 c = helper-by _ _ _ _ (c .before .before .before .before .before .before .before .before .find .ensures .0) (sym (c .before .before .before .before .id .given .1) ∙ c .before .before .before .before .before .before .number-of .ensures) (sym (c .enum-told2 .given .1) ∙ c .before .before .address-of .ensures)
+returns-2 c =
+    let named = c .before .before .before .before in
+    helper-by _ _ _ _
+    (named .before .before .before .before .find .ensures .0)
+    (sym (named .id .given .1) ∙ named .before .before .number-of .ensures)
+    (sym (c .enum-told2 .given .1) ∙ c .before .before .address-of .ensures)
 
 -- src/lib.rt:162:9
 returns-3 : tie.Need-returns-3
-returns-3 c = rw (le-ltb (c .before .before .before .before .before .before .id .given .0 .0) (2 ^ 32) (omega arith)) at (helper-by _ _ _ _ (c .before .before .before .before .before .before .before .before .before .before .find .ensures .0) (sym (c .before .before .before .before .before .before .id .given .1) ∙ c .before .before .before .before .before .before .before .before .number-of .ensures) (sym (c .before .before .address .given .1) ∙ c .before .before .before .before .address-of .ensures))
+returns-3 c =
+    let placed = c .before .before in
+    let named = placed .before .before .before .before in
+    let helper =
+    helper-by _ _ _ _
+    (named .before .before .before .before .find .ensures .0)
+    (sym (named .id .given .1) ∙ named .before .before .number-of .ensures)
+    (sym (placed .address .given .1) ∙ placed .before .before .address-of .ensures) in
+    rw (le-ltb (named .id .given .0 .0) (2 ^ 32) (omega arith)) at helper
 
 -- src/lib.rt:164:20
 cast-t11 : tie.Need-cast-t11
@@ -63,7 +76,15 @@ cast-t11 c = search needs
 
 -- src/lib.rt:151:1
 returns-4 : tie.Need-returns-4
-returns-4 c = rw (lt-ltb (c .before .before .before .before .before .before .id .given .0 .0) (2 ^ 32) (omega arith)) at (helper-by _ _ _ _ (c .before .before .before .before .before .before .before .before .before .before .find .ensures .0) (sym (c .before .before .before .before .before .before .id .given .1) ∙ c .before .before .before .before .before .before .before .before .number-of .ensures) (sym (c .before .before .address .given .1) ∙ c .before .before .before .before .address-of .ensures))
+returns-4 c =
+    let placed = c .before .before in
+    let named = placed .before .before .before .before in
+    let helper =
+    helper-by _ _ _ _
+    (named .before .before .before .before .find .ensures .0)
+    (sym (named .id .given .1) ∙ named .before .before .number-of .ensures)
+    (sym (placed .address .given .1) ∙ placed .before .before .address-of .ensures) in
+    rw (lt-ltb (named .id .given .0 .0) (2 ^ 32) (omega arith)) at helper
 
 pub helper-of-spec : {M : Type 1} → statement M
 helper-of-spec =

@@ -44,7 +44,17 @@ is-requires-3 c κs = search needs
 -- src/lib.rt:51:9
 returns-3 : tie.Need-returns-3
 unfolding wordOf
-returns-3 c = rw (← c .before .before .before .before .before .before .before .is .ensures, c .before .before .before .before .before .before .if1 .left, ← c .before .before .before .before .is2 .ensures, c .before .before .before .if2 .left, ← c .before .is3 .ensures, c .if3 .taken)
+returns-3 c =
+    let not-update = c .before .before .before in
+    let not-mbuff = not-update .before .before .before in
+    rw (
+      ← not-mbuff .before .is .ensures,
+      not-mbuff .if1 .left,
+      ← not-update .before .is2 .ensures,
+      not-update .if2 .left,
+      ← c .before .is3 .ensures,
+      c .if3 .taken,
+    )
 
 -- src/lib.rt:53:17
 slice-aggregate-is-4 : tie.Need-slice-aggregate-is-4
@@ -57,7 +67,20 @@ is-requires-4 c κs = search needs
 -- src/lib.rt:54:9
 returns-4 : tie.Need-returns-4
 unfolding wordOf
-returns-4 c = rw (← c .before .before .before .before .before .before .before .before .before .before .is .ensures, c .before .before .before .before .before .before .before .before .before .if1 .left, ← c .before .before .before .before .before .before .before .is2 .ensures, c .before .before .before .before .before .before .if2 .left, ← c .before .before .before .before .is3 .ensures, c .before .before .before .if3 .left, ← c .before .is4 .ensures, c .if4 .taken)
+returns-4 c =
+    let not-page = c .before .before .before in
+    let not-update = not-page .before .before .before in
+    let not-mbuff = not-update .before .before .before in
+    rw (
+      ← not-mbuff .before .is .ensures,
+      not-mbuff .if1 .left,
+      ← not-update .before .is2 .ensures,
+      not-update .if2 .left,
+      ← not-page .before .is3 .ensures,
+      not-page .if3 .left,
+      ← c .before .is4 .ensures,
+      c .if4 .taken,
+    )
 
 -- src/lib.rt:56:17
 slice-aggregate-is-5 : tie.Need-slice-aggregate-is-5
@@ -70,12 +93,46 @@ is-requires-5 c κs = search needs
 -- src/lib.rt:57:9
 returns-5 : tie.Need-returns-5
 unfolding wordOf
-returns-5 c = rw (← c .before .before .before .before .before .before .before .before .before .before .before .before .before .is .ensures, c .before .before .before .before .before .before .before .before .before .before .before .before .if1 .left, ← c .before .before .before .before .before .before .before .before .before .before .is2 .ensures, c .before .before .before .before .before .before .before .before .before .if2 .left, ← c .before .before .before .before .before .before .before .is3 .ensures, c .before .before .before .before .before .before .if3 .left, ← c .before .before .before .before .is4 .ensures, c .before .before .before .if4 .left, ← c .before .is5 .ensures, c .if5 .taken)
+returns-5 c =
+    let not-helper = c .before .before .before in
+    let not-page = not-helper .before .before .before in
+    let not-update = not-page .before .before .before in
+    let not-mbuff = not-update .before .before .before in
+    rw (
+      ← not-mbuff .before .is .ensures,
+      not-mbuff .if1 .left,
+      ← not-update .before .is2 .ensures,
+      not-update .if2 .left,
+      ← not-page .before .is3 .ensures,
+      not-page .if3 .left,
+      ← not-helper .before .is4 .ensures,
+      not-helper .if4 .left,
+      ← c .before .is5 .ensures,
+      c .if5 .taken,
+    )
 
 -- src/lib.rt:60:9
 returns-6 : tie.Need-returns-6
 unfolding wordOf
-returns-6 c = rw (← c .before .before .before .before .before .before .before .before .before .before .before .before .before .before .is .ensures, c .before .before .before .before .before .before .before .before .before .before .before .before .before .if1 .left, ← c .before .before .before .before .before .before .before .before .before .before .before .is2 .ensures, c .before .before .before .before .before .before .before .before .before .before .if2 .left, ← c .before .before .before .before .before .before .before .before .is3 .ensures, c .before .before .before .before .before .before .before .if3 .left, ← c .before .before .before .before .before .is4 .ensures, c .before .before .before .before .if4 .left, ← c .before .before .is5 .ensures, c .before .if5 .left, first-none _ (c .if6 .taken))
+returns-6 c =
+    let not-help = c .before in
+    let not-helper = not-help .before .before .before in
+    let not-page = not-helper .before .before .before in
+    let not-update = not-page .before .before .before in
+    let not-mbuff = not-update .before .before .before in
+    rw (
+      ← not-mbuff .before .is .ensures,
+      not-mbuff .if1 .left,
+      ← not-update .before .is2 .ensures,
+      not-update .if2 .left,
+      ← not-page .before .is3 .ensures,
+      not-page .if3 .left,
+      ← not-helper .before .is4 .ensures,
+      not-helper .if4 .left,
+      ← not-help .before .is5 .ensures,
+      not-help .if5 .left,
+      first-none _ (c .if6 .taken),
+    )
 
 -- src/lib.rt:62:8
 shared-slice-read-if7 : tie.Need-shared-slice-read-if7
@@ -84,12 +141,52 @@ shared-slice-read-if7 c = search needs
 -- src/lib.rt:63:9
 returns-7 : tie.Need-returns-7
 unfolding wordOf
-returns-7 c = rw (← c .before .before .before .before .before .before .before .before .before .before .before .before .before .before .before .before .is .ensures, c .before .before .before .before .before .before .before .before .before .before .before .before .before .before .before .if1 .left, ← c .before .before .before .before .before .before .before .before .before .before .before .before .before .is2 .ensures, c .before .before .before .before .before .before .before .before .before .before .before .before .if2 .left, ← c .before .before .before .before .before .before .before .before .before .before .is3 .ensures, c .before .before .before .before .before .before .before .before .before .if3 .left, ← c .before .before .before .before .before .before .before .is4 .ensures, c .before .before .before .before .before .before .if4 .left, ← c .before .before .before .before .is5 .ensures, c .before .before .before .if5 .left, first-some _ 0 (c .before .before .if6 .left), eq-eqb _ _ (c .if7 .taken))
+returns-7 c =
+    let not-empty = c .before .before in
+    let not-help = not-empty .before in
+    let not-helper = not-help .before .before .before in
+    let not-page = not-helper .before .before .before in
+    let not-update = not-page .before .before .before in
+    let not-mbuff = not-update .before .before .before in
+    rw (
+      ← not-mbuff .before .is .ensures,
+      not-mbuff .if1 .left,
+      ← not-update .before .is2 .ensures,
+      not-update .if2 .left,
+      ← not-page .before .is3 .ensures,
+      not-page .if3 .left,
+      ← not-helper .before .is4 .ensures,
+      not-helper .if4 .left,
+      ← not-help .before .is5 .ensures,
+      not-help .if5 .left,
+      first-some _ 0 (not-empty .if6 .left),
+      eq-eqb _ _ (c .if7 .taken),
+    )
 
 -- src/lib.rt:41:1
 returns-8 : tie.Need-returns-8
 unfolding wordOf
-returns-8 c = rw (← c .before .before .before .before .before .before .before .before .before .before .before .before .before .before .before .before .is .ensures, c .before .before .before .before .before .before .before .before .before .before .before .before .before .before .before .if1 .left, ← c .before .before .before .before .before .before .before .before .before .before .before .before .before .is2 .ensures, c .before .before .before .before .before .before .before .before .before .before .before .before .if2 .left, ← c .before .before .before .before .before .before .before .before .before .before .is3 .ensures, c .before .before .before .before .before .before .before .before .before .if3 .left, ← c .before .before .before .before .before .before .before .is4 .ensures, c .before .before .before .before .before .before .if4 .left, ← c .before .before .before .before .is5 .ensures, c .before .before .before .if5 .left, first-some _ 0 (c .before .before .if6 .left), ne-eqb _ _ (c .if7 .left))
+returns-8 c =
+    let not-empty = c .before .before in
+    let not-help = not-empty .before in
+    let not-helper = not-help .before .before .before in
+    let not-page = not-helper .before .before .before in
+    let not-update = not-page .before .before .before in
+    let not-mbuff = not-update .before .before .before in
+    rw (
+      ← not-mbuff .before .is .ensures,
+      not-mbuff .if1 .left,
+      ← not-update .before .is2 .ensures,
+      not-update .if2 .left,
+      ← not-page .before .is3 .ensures,
+      not-page .if3 .left,
+      ← not-helper .before .is4 .ensures,
+      not-helper .if4 .left,
+      ← not-help .before .is5 .ensures,
+      not-help .if5 .left,
+      first-some _ 0 (not-empty .if6 .left),
+      ne-eqb _ _ (c .if7 .left),
+    )
 
 pub word-of-spec : {M : Type 1} → statement M
 word-of-spec =

@@ -27,7 +27,13 @@ same-length c = search needs
 
 returns : tie.Need-returns
 unfolding numberText bytecodeLine
-returns c = then (c .before .before .before .before .before .before .before .before .before .before .before .before .before .before .put-form .ensures) (then (padded 22 (c .before .before .before .before .before .before .before .before .before .before .before .before .before .before .put-form .ensures) (c .before .before .before .before .before .before .before .before .before .before .put-padding .ensures)) (then (c .before .before .before .before .before .before .put-slot .ensures) (c .before .before .finish .ensures)))
+returns c =
+    let slot = c .before .before .before .before .before .before in
+    let padding = slot .before .before .before .before in
+    let number = padding .before .before .before .before .put-form .ensures in
+    then number
+    (then (padded 22 number (padding .put-padding .ensures))
+    (then (slot .put-slot .ensures) (c .before .before .finish .ensures)))
 
 pub list-bytecode-spec : {M : Type 1} → statement M
 list-bytecode-spec =

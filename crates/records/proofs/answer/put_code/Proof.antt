@@ -33,7 +33,11 @@ loop-less : tie.Need-loop-less Inv-loop μ-loop
 loop-less c = search needs
 
 loop-again : tie.Need-loop-again Inv-loop μ-loop
-loop-again c = (rw (c .before .before .put-byte .ensures .1, length-set) (c .before .before .before .before .before .before .loop .inv .0), omega arith, rw (c .before .before .put-byte .ensures .1, c .before .before .before .before .before .before .loop .inv .2) (code-run _ _ _ _ (c .before .before .before .before .before .loop-test .taken)))
+loop-again c =
+    let wrote = c .before .before .put-byte .ensures .1 in
+    let tested = c .before .before .before .before .before in
+    let kept = tested .before .loop .inv in
+    (rw (wrote, length-set) (kept .0), omega arith, rw (wrote, kept .2) (code-run _ _ _ _ (tested .loop-test .taken)))
 
 add-result : tie.Need-add-result Inv-loop μ-loop
 add-result c = search needs

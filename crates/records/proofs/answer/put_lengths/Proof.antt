@@ -58,7 +58,17 @@ same-length c = search needs
 
 returns : tie.Need-returns
 unfolding acceptedHead
-returns c = behind (number-run (13 + c .before .before .before .before .before .before .before .before .before .before .before .before .before .before .before .before .before .before .before .before .before .args .code + 4 * c .before .before .before .before .before .before .before .before .before .before .before .before .before .before .before .before .before .before .before .before .before .args .ends + 4 * c .before .before .before .before .before .before .before .before .before .before .before .before .before .before .before .before .before .before .before .before .before .args .jumps + 4 * c .before .before .before .before .before .before .before .before .before .before .before .before .before .before .before .before .before .before .before .before .before .args .targets) (c .before .before .before .before .before .before .before .before .before .before .before .before .before .before .before .before .before .before .put-number .ensures)) (behind (byte-run (c .before .before .before .before .before .before .before .before .before .before .before .before .before .before .put-byte .ensures)) (behind (number-run (c .before .before .before .before .before .before .before .before .before .before .before .before .before .before .before .before .before .before .before .before .before .args .code) (c .before .before .before .before .before .before .before .before .before .before .put-number2 .ensures)) (behind (number-run (c .before .before .before .before .before .before .before .before .before .before .before .before .before .before .before .before .before .before .before .before .before .args .jumps) (c .before .before .before .before .before .before .put-number3 .ensures)) (number-run (c .before .before .before .before .before .before .before .before .before .before .before .before .before .before .before .before .before .before .before .before .before .args .ends) (c .before .before .put-number4 .ensures)))))
+returns c =
+    let ends = c .before .before in
+    let jumps = ends .before .before .before .before in
+    let code = jumps .before .before .before .before in
+    let zero = code .before .before .before .before in
+    let total = zero .before .before .before .before in
+    let args = total .before .before .before .args in
+    behind (number-run (13 + args .code + 4 * args .ends + 4 * args .jumps + 4 * args .targets) (total .put-number .ensures))
+    (behind (byte-run (zero .put-byte .ensures))
+    (behind (number-run (args .code) (code .put-number2 .ensures))
+    (behind (number-run (args .jumps) (jumps .put-number3 .ensures)) (number-run (args .ends) (ends .put-number4 .ensures)))))
 
 pub put-lengths-spec : {M : Type 1} → statement M
 put-lengths-spec =

@@ -30,7 +30,10 @@ same-length c = search needs
 
 returns : tie.Need-returns
 unfolding refusalLine
-returns c = rw (← c .before .before .before .before .before .before .before .before .before .before .before .number-of .ensures, ← c .before .before .before .before .before .before .before .before .before .before .slot-of .ensures) (then (c .before .before .before .before .before .before .put-form .ensures) (c .before .before .put-byte .ensures))
+returns c =
+    let form = c .before .before .before .before .before .before in
+    let slot = form .before .before .before .before in
+    rw (← slot .before .number-of .ensures, ← slot .slot-of .ensures) (then (form .put-form .ensures) (c .before .before .put-byte .ensures))
 
 pub put-refusal-line-spec : {M : Type 1} → statement M
 put-refusal-line-spec =

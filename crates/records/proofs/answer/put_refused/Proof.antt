@@ -36,7 +36,17 @@ same-length c = search needs
 
 returns-2 : tie.Need-returns-2
 unfolding framed refusedBytes
-returns-2 c = stored (le-leb _ _ (c .before .before .before .before .before .before .before .before .before .before .before .before .before .before .before .if1 .left)) (omega arith) (behind (number-run (5) (c .before .before .before .before .before .before .before .before .before .before .before .before .before .put-number .ensures)) (behind (same-run (byte-run (c .before .before .before .before .before .before .before .before .put-byte .ensures)) (ap (λ (n : ℕ). n ∷ []) (c .before .before .before .before .before .before .before .before .before .number-of .ensures))) (same-run (number-run (c .before .before .before .slot-number .result) (c .before .before .put-number2 .ensures)) (ap le32 (c .before .before .before .slot-number .ensures ∙ ap (λ (n : ℕ). min n 4294967295) (c .before .before .before .before .slot-of .ensures))))))
+returns-2 c =
+    let slot = c .before .before .before in
+    let number = slot .before .before .before .before .before in
+    let length = number .before .before .before .before .before in
+    stored
+    (le-leb _ _ (length .before .before .if1 .left))
+    (omega arith)
+    (behind (number-run 5 (length .put-number .ensures))
+    (behind (same-run (byte-run (number .put-byte .ensures)) (ap (λ (n : ℕ). n ∷ []) (number .before .number-of .ensures)))
+    (same-run (number-run (slot .slot-number .result) (c .before .before .put-number2 .ensures))
+    (ap le32 (slot .slot-number .ensures ∙ ap (λ (n : ℕ). min n 4294967295) (slot .before .slot-of .ensures))))))
 
 pub put-refused-spec : {M : Type 1} → statement M
 put-refused-spec =

@@ -39,7 +39,11 @@ loop-less : tie.Need-loop-less Inv-loop μ-loop
 loop-less c = search needs
 
 loop-again : tie.Need-loop-again Inv-loop μ-loop
-loop-again c = (rw (c .before .before .put-number .ensures .1, length-sets) (c .before .before .before .before .before .before .loop .inv .0), omega arith, rw (c .before .before .put-number .ensures .1, c .before .before .before .before .before .before .loop .inv .2) (entries-run _ _ _ _ (c .before .before .before .before .before .loop-test .taken)))
+loop-again c =
+    let wrote = c .before .before .put-number .ensures .1 in
+    let tested = c .before .before .before .before .before in
+    let kept = tested .before .loop .inv in
+    (rw (wrote, length-sets) (kept .0), omega arith, rw (wrote, kept .2) (entries-run _ _ _ _ (tested .loop-test .taken)))
 
 mul-result : tie.Need-mul-result Inv-loop μ-loop
 mul-result c = search needs
@@ -51,7 +55,12 @@ same-length : tie.Need-same-length Inv-loop μ-loop
 same-length c = search needs
 
 returns : tie.Need-returns Inv-loop μ-loop
-returns c = record { bytes = rw (take-all (c .before .loop .i) (c .before .before .before .before .args .table .now) (c .loop-test .left)) at (c .before .loop .inv .2); next = omega (arith, length-entries (c .before .before .before .before .args .table .now)) }
+returns c =
+    let table = c .before .before .before .before .args .table .now in
+    record {
+      bytes = rw (take-all (c .before .loop .i) table (c .loop-test .left)) at (c .before .loop .inv .2);
+      next = omega (arith, length-entries table);
+    }
 
 pub put-table-spec : {M : Type 1} → statement M
 put-table-spec =

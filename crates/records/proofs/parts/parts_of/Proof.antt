@@ -49,7 +49,16 @@ add-t20 c = search needs
 
 returns : tie.Need-returns
 unfolding partsOf idsIn addressesIn programAt
-returns c = rw (c .count-at6 .ensures .0, c .before .count-at5 .ensures .0, c .before .before .count-at4 .ensures .0, c .before .before .before .count-at3 .ensures .0, c .before .before .before .before .before .before .count-at2 .ensures .0, c .before .before .before .before .before .before .before .count-at .ensures .0)
+returns c =
+    let addresses = c .before .before .before .before .before .before in
+    rw (
+      c .count-at6 .ensures .0,
+      c .before .count-at5 .ensures .0,
+      c .before .before .count-at4 .ensures .0,
+      c .before .before .before .count-at3 .ensures .0,
+      addresses .count-at2 .ensures .0,
+      addresses .before .count-at .ensures .0,
+    )
 
 pub parts-of-spec : {M : Type 1} → statement M
 parts-of-spec =

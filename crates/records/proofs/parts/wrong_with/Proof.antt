@@ -24,7 +24,15 @@ count-at-requires c κs = search needs
 
 returns-4 : tie.Need-returns-4
 unfolding wrongWith idsIn addressesAt addressesIn programAt programIn
-returns-4 c = rw (ne-eqb _ _ (c .before .before .before .before .before .if1 .left), le-ltb _ _ (c .before .before .before .if2 .left), le-ltb _ _ (c .before .before .if3 .left), ← c .before .count-at .ensures .0, lt-ltb _ _ (c .if4 .taken))
+returns-4 c =
+    let ids = c .before in
+    rw (
+      ne-eqb _ _ (ids .before .before .before .before .if1 .left),
+      le-ltb _ _ (ids .before .before .if2 .left),
+      le-ltb _ _ (ids .before .if3 .left),
+      ← ids .count-at .ensures .0,
+      lt-ltb _ _ (c .if4 .taken),
+    )
 
 mul-if5 : tie.Need-mul-if5
 mul-if5 c = search needs
@@ -34,7 +42,16 @@ add-if5 c = search needs
 
 returns-5 : tie.Need-returns-5
 unfolding wrongWith idsIn addressesAt addressesIn programAt programIn
-returns-5 c = rw (ne-eqb _ _ (c .before .before .before .before .before .before .if1 .left), le-ltb _ _ (c .before .before .before .before .if2 .left), le-ltb _ _ (c .before .before .before .if3 .left), ← c .before .before .count-at .ensures .0, le-ltb _ _ (c .before .if4 .left), lt-ltb _ _ (c .if5 .taken))
+returns-5 c =
+    let ids = c .before .before in
+    rw (
+      ne-eqb _ _ (ids .before .before .before .before .if1 .left),
+      le-ltb _ _ (ids .before .before .if2 .left),
+      le-ltb _ _ (ids .before .if3 .left),
+      ← ids .count-at .ensures .0,
+      le-ltb _ _ (c .before .if4 .left),
+      lt-ltb _ _ (c .if5 .taken),
+    )
 
 mul-count-at : tie.Need-mul-count-at
 mul-count-at c = search needs
@@ -47,7 +64,19 @@ count-at-requires-2 c κs = search needs
 
 returns-6 : tie.Need-returns-6
 unfolding wrongWith idsIn addressesAt addressesIn programAt programIn
-returns-6 c = rw (ne-eqb _ _ (c .before .before .before .before .before .before .before .before .if1 .left), le-ltb _ _ (c .before .before .before .before .before .before .if2 .left), le-ltb _ _ (c .before .before .before .before .before .if3 .left), ← c .before .before .before .before .count-at .ensures .0, le-ltb _ _ (c .before .before .before .if4 .left), le-ltb _ _ (c .before .before .if5 .left), ← c .before .count-at2 .ensures .0, lt-ltb _ _ (c .if6 .taken))
+returns-6 c =
+    let addresses = c .before in
+    let ids = addresses .before .before .before in
+    rw (
+      ne-eqb _ _ (ids .before .before .before .before .if1 .left),
+      le-ltb _ _ (ids .before .before .if2 .left),
+      le-ltb _ _ (ids .before .if3 .left),
+      ← ids .count-at .ensures .0,
+      le-ltb _ _ (addresses .before .before .if4 .left),
+      le-ltb _ _ (addresses .before .if5 .left),
+      ← addresses .count-at2 .ensures .0,
+      lt-ltb _ _ (c .if6 .taken),
+    )
 
 mul-program : tie.Need-mul-program
 mul-program c = search needs
@@ -63,7 +92,20 @@ add-program-2 c = search needs
 
 returns-7 : tie.Need-returns-7
 unfolding wrongWith idsIn addressesAt addressesIn programAt programIn
-returns-7 c = rw (ne-eqb _ _ (c .before .before .before .before .before .before .before .before .before .if1 .left), le-ltb _ _ (c .before .before .before .before .before .before .before .if2 .left), le-ltb _ _ (c .before .before .before .before .before .before .if3 .left), ← c .before .before .before .before .before .count-at .ensures .0, le-ltb _ _ (c .before .before .before .before .if4 .left), le-ltb _ _ (c .before .before .before .if5 .left), ← c .before .before .count-at2 .ensures .0, le-ltb _ _ (c .before .if6 .left), lt-ltb _ _ (c .if7 .taken))
+returns-7 c =
+    let addresses = c .before .before in
+    let ids = addresses .before .before .before in
+    rw (
+      ne-eqb _ _ (ids .before .before .before .before .if1 .left),
+      le-ltb _ _ (ids .before .before .if2 .left),
+      le-ltb _ _ (ids .before .if3 .left),
+      ← ids .count-at .ensures .0,
+      le-ltb _ _ (addresses .before .before .if4 .left),
+      le-ltb _ _ (addresses .before .if5 .left),
+      ← addresses .count-at2 .ensures .0,
+      le-ltb _ _ (c .before .if6 .left),
+      lt-ltb _ _ (c .if7 .taken),
+    )
 
 mul-count-at-2 : tie.Need-mul-count-at-2
 mul-count-at-2 c = search needs
@@ -82,18 +124,68 @@ count-at-requires-3 c κs = search needs
 
 returns-8 : tie.Need-returns-8
 unfolding wrongWith idsIn addressesAt addressesIn programAt programIn
-returns-8 c = rw (ne-eqb _ _ (c .before .before .before .before .before .before .before .before .before .before .before .if1 .left), le-ltb _ _ (c .before .before .before .before .before .before .before .before .before .if2 .left), le-ltb _ _ (c .before .before .before .before .before .before .before .before .if3 .left), ← c .before .before .before .before .before .before .before .count-at .ensures .0, le-ltb _ _ (c .before .before .before .before .before .before .if4 .left), le-ltb _ _ (c .before .before .before .before .before .if5 .left), ← c .before .before .before .before .count-at2 .ensures .0, le-ltb _ _ (c .before .before .before .if6 .left), le-ltb _ _ (c .before .before .if7 .left), ← c .before .count-at3 .ensures .0, lt-ltb _ _ (c .if8 .taken))
+returns-8 c =
+    let length = c .before in
+    let addresses = length .before .before .before in
+    let ids = addresses .before .before .before in
+    rw (
+      ne-eqb _ _ (ids .before .before .before .before .if1 .left),
+      le-ltb _ _ (ids .before .before .if2 .left),
+      le-ltb _ _ (ids .before .if3 .left),
+      ← ids .count-at .ensures .0,
+      le-ltb _ _ (addresses .before .before .if4 .left),
+      le-ltb _ _ (addresses .before .if5 .left),
+      ← addresses .count-at2 .ensures .0,
+      le-ltb _ _ (length .before .before .if6 .left),
+      le-ltb _ _ (length .before .if7 .left),
+      ← length .count-at3 .ensures .0,
+      lt-ltb _ _ (c .if8 .taken),
+    )
 
 sub-if9 : tie.Need-sub-if9
 sub-if9 c = search needs
 
 returns-9 : tie.Need-returns-9
 unfolding wrongWith idsIn addressesAt addressesIn programAt programIn
-returns-9 c = rw (ne-eqb _ _ (c .before .before .before .before .before .before .before .before .before .before .before .before .if1 .left), le-ltb _ _ (c .before .before .before .before .before .before .before .before .before .before .if2 .left), le-ltb _ _ (c .before .before .before .before .before .before .before .before .before .if3 .left), ← c .before .before .before .before .before .before .before .before .count-at .ensures .0, le-ltb _ _ (c .before .before .before .before .before .before .before .if4 .left), le-ltb _ _ (c .before .before .before .before .before .before .if5 .left), ← c .before .before .before .before .before .count-at2 .ensures .0, le-ltb _ _ (c .before .before .before .before .if6 .left), le-ltb _ _ (c .before .before .before .if7 .left), ← c .before .before .count-at3 .ensures .0, le-ltb _ _ (c .before .if8 .left), ne-eqb _ _ (c .if9 .taken))
+returns-9 c =
+    let length = c .before .before in
+    let addresses = length .before .before .before in
+    let ids = addresses .before .before .before in
+    rw (
+      ne-eqb _ _ (ids .before .before .before .before .if1 .left),
+      le-ltb _ _ (ids .before .before .if2 .left),
+      le-ltb _ _ (ids .before .if3 .left),
+      ← ids .count-at .ensures .0,
+      le-ltb _ _ (addresses .before .before .if4 .left),
+      le-ltb _ _ (addresses .before .if5 .left),
+      ← addresses .count-at2 .ensures .0,
+      le-ltb _ _ (length .before .before .if6 .left),
+      le-ltb _ _ (length .before .if7 .left),
+      ← length .count-at3 .ensures .0,
+      le-ltb _ _ (c .before .if8 .left),
+      ne-eqb _ _ (c .if9 .taken),
+    )
 
 returns-10 : tie.Need-returns-10
 unfolding wrongWith idsIn addressesAt addressesIn programAt programIn
-returns-10 c = rw (ne-eqb _ _ (c .before .before .before .before .before .before .before .before .before .before .before .before .if1 .left), le-ltb _ _ (c .before .before .before .before .before .before .before .before .before .before .if2 .left), le-ltb _ _ (c .before .before .before .before .before .before .before .before .before .if3 .left), ← c .before .before .before .before .before .before .before .before .count-at .ensures .0, le-ltb _ _ (c .before .before .before .before .before .before .before .if4 .left), le-ltb _ _ (c .before .before .before .before .before .before .if5 .left), ← c .before .before .before .before .before .count-at2 .ensures .0, le-ltb _ _ (c .before .before .before .before .if6 .left), le-ltb _ _ (c .before .before .before .if7 .left), ← c .before .before .count-at3 .ensures .0, le-ltb _ _ (c .before .if8 .left), eq-eqb _ _ (c .if9 .left))
+returns-10 c =
+    let length = c .before .before in
+    let addresses = length .before .before .before in
+    let ids = addresses .before .before .before in
+    rw (
+      ne-eqb _ _ (ids .before .before .before .before .if1 .left),
+      le-ltb _ _ (ids .before .before .if2 .left),
+      le-ltb _ _ (ids .before .if3 .left),
+      ← ids .count-at .ensures .0,
+      le-ltb _ _ (addresses .before .before .if4 .left),
+      le-ltb _ _ (addresses .before .if5 .left),
+      ← addresses .count-at2 .ensures .0,
+      le-ltb _ _ (length .before .before .if6 .left),
+      le-ltb _ _ (length .before .if7 .left),
+      ← length .count-at3 .ensures .0,
+      le-ltb _ _ (c .before .if8 .left),
+      eq-eqb _ _ (c .if9 .left),
+    )
 
 pub wrong-with-spec : {M : Type 1} → statement M
 wrong-with-spec =
