@@ -7,7 +7,7 @@ import struct
 import subprocess
 import tempfile
 
-from machine import ROOT, disassembler, fail
+from machine import OBJDUMP, ROOT, fail
 
 M32 = 2**32 - 1
 LINE = re.compile(r"^ *([0-9a-f]+):\t((?:[0-9a-f]{2} )+) *\t?(.*)$")
@@ -134,7 +134,7 @@ def lines(code):
         path = os.path.join(folder, "pages")
         with open(path, "wb") as file:
             file.write(code)
-        command = [disassembler(), "-D", "-b", "binary", "-m", "i386:x86-64", "-M", "intel", "-w", path]
+        command = [OBJDUMP, "-D", "-b", "binary", "-m", "i386:x86-64", "-M", "intel", "-w", path]
         output = subprocess.Popen(command, stdout=subprocess.PIPE, text=True)
         for line in output.stdout:
             match = LINE.match(line)
@@ -186,7 +186,7 @@ def by_reader(answers):
 
 
 class Accepted:
-    """An accepted answer of a stream (crates/corpus/data/README.md): its number there, its code and its three tables."""
+    """An accepted answer of a stream (docs/CASES.md): its number there, its code and its three tables."""
 
     def __init__(self, number, answers, at):
         length, jumps, entries = struct.unpack_from("<III", answers, at)

@@ -21,14 +21,21 @@
 extern "C" {
 #endif
 
-/* Limits, and sizes that are enough. A program of n slots (its length in bytes divided by 8, rounded down) takes at most 42 * n + 65 bytes of
- * code, n + 1 locations and n + 1 jumps, so smaller buffers do for smaller programs. */
+/* Limits, and sizes that are enough. A program of n slots (its length in bytes divided by 8, rounded down) takes at most
+ * NDAKOLEEM_SLOT_CODE_MAX * n + NDAKOLEEM_FRAME_CODE_MAX bytes of code, n + 1 locations and n + 1 jumps, so smaller buffers do for smaller
+ * programs. rust/test holds these numbers to the library's. */
 enum {
-    NDAKOLEEM_PROGRAM_MAX = 16384,   /* bytes: 2,048 slots */
+    NDAKOLEEM_SLOTS_MAX = 2048,      /* slots of a program */
+    NDAKOLEEM_PROGRAM_MAX = 8 * NDAKOLEEM_SLOTS_MAX, /* bytes */
     NDAKOLEEM_CODE_MIN = 4096,       /* bytes */
     NDAKOLEEM_CODE_MAX = 131072,     /* bytes */
-    NDAKOLEEM_CODE_ENOUGH = 90112,   /* bytes, a multiple of 4,096: no program's code is longer than 86,081 */
-    NDAKOLEEM_TABLE_ENOUGH = 2049,   /* entries: as many as the longest program needs */
+    NDAKOLEEM_SLOT_CODE_MAX = 42,    /* bytes of a slot's code */
+    NDAKOLEEM_FRAME_CODE_MAX = 65,   /* bytes of the prologue and the epilogue */
+    /* bytes: no program's code is longer */
+    NDAKOLEEM_CODE_LONGEST = NDAKOLEEM_SLOT_CODE_MAX * NDAKOLEEM_SLOTS_MAX + NDAKOLEEM_FRAME_CODE_MAX,
+    /* bytes: that, rounded up to a multiple of NDAKOLEEM_CODE_MIN */
+    NDAKOLEEM_CODE_ENOUGH = (NDAKOLEEM_CODE_LONGEST + NDAKOLEEM_CODE_MIN - 1) / NDAKOLEEM_CODE_MIN * NDAKOLEEM_CODE_MIN,
+    NDAKOLEEM_TABLE_ENOUGH = NDAKOLEEM_SLOTS_MAX + 1, /* entries: as many as the longest program needs */
     NDAKOLEEM_HELPERS_MAX = 256,     /* helpers */
     NDAKOLEEM_EXIT_TARGET = 1000001, /* in the table of targets: a jump to the exit */
     NDAKOLEEM_SENTENCE_ENOUGH = 200  /* bytes: every sentence of ndakoleem_sentence finds room */
@@ -113,7 +120,7 @@ struct ndakoleem_buffers {
     size_t targets_length;
 };
 
-/* Memory in which every program finds room, 114,700 bytes: too much for a small stack. */
+/* Memory in which every program finds room. It is more than 100 KiB: too much for a small stack. */
 struct ndakoleem_memory {
     uint8_t code[NDAKOLEEM_CODE_ENOUGH];
     uint32_t locations[NDAKOLEEM_TABLE_ENOUGH];

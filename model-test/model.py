@@ -1,7 +1,7 @@
-"""The processor of crates/processor/specs/Machine.antt, said over again in Python, definition by definition under the same names.
+"""The processor of crates/x86_machine/specs/Machine.antt, said over again in Python, definition by definition under the same names.
 
 It reads nothing from antt. `run` holds it to a real processor, and writes a table of its answers that antt computes again
-(crates/processor/specs/ModelTests.antt): so the two are one model, and that model is the processor's.
+(crates/x86_machine/proofs/ModelTests.antt): so the two are one model, and that model is the processor's.
 """
 
 RAX, RCX, RDX, RBX, RSP, RBP, RSI, RDI = range(8)

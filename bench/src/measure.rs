@@ -21,8 +21,8 @@ pub enum Measured {
     Timed,
 }
 
-const PAGE: usize = 131_072;
-const ENTRIES: usize = 4_096;
+const PAGE: usize = ndakoleem::CODE_MAX;
+const ENTRIES: usize = 2 * ndakoleem::SLOTS_MAX;
 /// A timed row goes on for at least this long.
 const AT_LEAST: Duration = Duration::from_millis(200);
 

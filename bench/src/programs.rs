@@ -13,7 +13,7 @@ pub struct Row {
     pub cases: Vec<Case>,
 }
 
-const PAGE: u32 = 131_072;
+const PAGE: u32 = ndakoleem::CODE_MAX as u32;
 const HELPER: u32 = 1;
 
 fn slot(opc: u8, dst: u8, src: u8, off: i16, imm: i32) -> [u8; 8] {

@@ -8,18 +8,17 @@ use crate::ebpf;
 use crate::generate::Generator;
 use crate::judge::Judge;
 use crate::limits;
+use crate::sizes::{
+    ANCHOR, CODE_MAX, CODE_MIN, EPILOGUE, HELPERS_MAX, PROGRAM_MAX, PROLOGUE, SLOT_LONGEST,
+    TABLE_AMPLE, TABLE_ENOUGH,
+};
 use crate::slots::{
     plain_case, slot, wide, Opcodes, BAD_SWAPS, CONSTANTS, IDS, IMMS, LAST_REGISTER, OFFS,
 };
-use crate::stream::{Answer, Case};
+use crate::stream::{Answer, Case, HELPER_LIMIT};
 
 const RANDOM_SEED: u64 = 1;
 const RANDOM_COUNT: u64 = 2_000;
-
-const PAGE: usize = 4_096;
-/// Lengths of the prologue with both flags false, and of the epilogue.
-const PROLOGUE: usize = 34;
-const EPILOGUE: usize = 16;
 
 pub const EXIT: [u8; 8] = [ebpf::EXIT, 0, 0, 0, 0, 0, 0, 0];
 
@@ -57,7 +56,7 @@ pub fn worked() -> Vec<(&'static str, Case)> {
     let load = |src, off| case_of(&[slot(ebpf::LD_B_REG, 0, src, off, 0)]);
     let call = |imm| case_of(&[slot(ebpf::CALL, 0, 1, 0, imm)]);
     let jump = |off| case_of(&[slot(ebpf::JA, 0, 0, off, 0)]);
-    let bytes = |len| Case { table_lens: [2_049; 3], ..plain_case(&vec![0; len]) };
+    let bytes = |len| Case { table_lens: [TABLE_ENOUGH; 3], ..plain_case(&vec![0; len]) };
     vec![
         ("empty program", case_of(&[])),
         ("EXIT alone", case_of(&[EXIT])),
@@ -73,11 +72,11 @@ pub fn worked() -> Vec<(&'static str, Case)> {
         ("JA -1", jump(-1)),
         ("JA 0 alone", jump(0)),
         ("JA 1 alone", jump(1)),
-        ("local call 1000000", call(1_000_000)),
-        ("local call 999999", call(999_999)),
+        ("local call of the exit", call(ANCHOR - 1)),
+        ("local call a slot ahead of the exit", call(ANCHOR - 2)),
         ("7 bytes", bytes(7)),
-        ("16384 bytes", bytes(16_384)),
-        ("16385 bytes", bytes(16_385)),
+        ("the longest program", bytes(PROGRAM_MAX)),
+        ("a byte more than the longest program", bytes(PROGRAM_MAX + 1)),
     ]
 }
 
@@ -170,7 +169,7 @@ fn constants() -> Vec<Case> {
 /// The four pairs of flags.
 fn flags() -> Vec<Case> {
     let jump = slot(ebpf::JA, 0, 0, -1, 0);
-    let anchor = slot(ebpf::CALL, 0, 1, 0, 999_999);
+    let anchor = slot(ebpf::CALL, 0, 1, 0, ANCHOR - 2);
     let programs: [&[[u8; 8]]; 4] =
         [&[], &[EXIT], &[jump, anchor], &[slot(ebpf::LD_ABS_B, 0, 0, 0, 12)]];
     let mut list = Vec::new();
@@ -187,13 +186,15 @@ fn flags() -> Vec<Case> {
 /// Refusals 1 to 5 at their edges.
 fn frame_edges() -> Vec<Case> {
     let mut list = Vec::new();
-    for code_len in [0, 1, 4_095, 4_096, 4_097, 131_071, 131_072, 131_073, 1 << 31, u32::MAX] {
+    let around = |limit: u32| limit - 1..=limit + 1;
+    let far = [1 << 31, u32::MAX];
+    for code_len in (0..=1).chain(around(CODE_MIN)).chain(around(CODE_MAX)).chain(far) {
         list.push(Case { code_len, ..case_of(&[EXIT]) });
     }
-    for len in [16_376, 16_383, 16_384, 16_385, 16_392] {
+    for len in [PROGRAM_MAX - 8, PROGRAM_MAX - 1, PROGRAM_MAX, PROGRAM_MAX + 1, PROGRAM_MAX + 8] {
         let program = EXIT.iter().copied().cycle().take(len).collect::<Vec<u8>>();
-        list.push(Case { table_lens: [4_096; 3], ..plain_case(&program) });
-        list.push(Case { code_len: 131_072, ..plain_case(&program) });
+        list.push(Case { table_lens: [TABLE_AMPLE; 3], ..plain_case(&program) });
+        list.push(Case { code_len: CODE_MAX, ..plain_case(&program) });
     }
     for program in [&[][..], &EXIT, &[EXIT, EXIT].concat(), &[0x95, 0, 0]] {
         let case = plain_case(program);
@@ -223,15 +224,19 @@ fn helper_lists() -> Vec<Case> {
         ids[at] = count - 1;
         lists(ids, count as usize)
     };
-    let mut list =
-        vec![doubled(2, 0), doubled(3, 0), doubled(3, 1), doubled(256, 0), doubled(256, 254)];
-    for (ids, addresses) in [(0, 0), (0, 1), (1, 0), (1, 1), (1, 2), (255, 256), (256, 255)] {
-        list.push(lists(first(ids), addresses));
+    let all = HELPERS_MAX as u32;
+    let mut list = [(2, 0), (3, 0), (3, 1), (all, 0), (all, HELPERS_MAX - 2)]
+        .map(|(count, at)| doubled(count, at))
+        .to_vec();
+    let unlike = |ids, addresses: u32| lists(first(ids), addresses as usize);
+    for (ids, addresses) in [(0, 0), (0, 1), (1, 0), (1, 1), (1, 2), (all - 1, all), (all, all - 1)]
+    {
+        list.push(unlike(ids, addresses));
     }
-    for count in [255, 256, 257, 512] {
-        list.push(lists(first(count), count as usize));
+    for count in [all - 1, all, all + 1, HELPER_LIMIT as u32] {
+        list.push(unlike(count, count));
     }
-    list.extend([(256, 257), (257, 256)].map(|(ids, addresses)| lists(first(ids), addresses)));
+    list.extend([unlike(all, all + 1), unlike(all + 1, all)]);
     list
 }
 
@@ -308,7 +313,7 @@ fn jumps() -> Vec<Case> {
     for off in [i16::MIN, i16::MIN + 1, i16::MAX - 1, i16::MAX] {
         list.push(around(slot(ebpf::JA, 0, 0, off, 0)));
     }
-    for near in [999_997, 999_998, 999_999, 1_000_000, 1_000_001, i32::MAX, i32::MIN] {
+    for near in (ANCHOR - 4..=ANCHOR).chain([i32::MAX, i32::MIN]) {
         list.push(around(slot(ebpf::CALL, 0, 1, 0, near)));
         list.push(case_of(&[slot(ebpf::CALL, 0, 1, 0, near)]));
     }
@@ -341,10 +346,11 @@ fn refusal_order() -> Vec<Case> {
         }
     }
     for causes in 0..16 {
-        for code_len in [4_095, 4_096, 131_073] {
+        for code_len in [CODE_MIN - 1, CODE_MIN, CODE_MAX + 1] {
             let mut case = Case { code_len, ..case_of(&[bad[1]]) };
             if causes & 1 != 0 {
-                case = Case { program: vec![0xff; 16_385], table_lens: [2_049; 3], ..case };
+                let program = vec![0xff; PROGRAM_MAX + 1];
+                case = Case { program, table_lens: [TABLE_ENOUGH; 3], ..case };
             }
             if causes & 2 != 0 {
                 case.table_lens[causes % 3] = 0;
@@ -364,8 +370,8 @@ fn refusal_order() -> Vec<Case> {
 /// Slots whose code comes to `len` bytes, with no jump but to the next slot.
 fn filler(len: usize) -> Vec<[u8; 8]> {
     let long = slot(ebpf::DIV64_REG, 4, 5, 0, 0);
-    let mut slots = vec![long; len / 42];
-    slots.extend(vec![EXIT; len % 42]);
+    let mut slots = vec![long; len / SLOT_LONGEST];
+    slots.extend(vec![EXIT; len % SLOT_LONGEST]);
     slots
 }
 
@@ -405,7 +411,7 @@ fn page_ends(judge: &mut Judge, opcodes: &Opcodes) -> Result<Vec<Case>, String> 
             false => vec![0, 1, EPILOGUE, EPILOGUE + 1, EPILOGUE + len],
         };
         for excess in excesses {
-            let room = PAGE + excess - PROLOGUE - EPILOGUE - len;
+            let room = CODE_MIN as usize + excess - PROLOGUE - EPILOGUE - len;
             list.push(with_helper(case_of(&[filler(room), last.clone()].concat()), 0));
         }
     }

@@ -5,14 +5,15 @@
 //! Case number `at` of a seed depends on these two numbers alone.
 
 use crate::ebpf;
-use crate::judge::{Judge, CODE_MAX, CODE_MIN};
+use crate::judge::Judge;
 use crate::program::{self, Fault, Setting, FAULTS};
 use crate::random::Random;
+use crate::sizes::{
+    CODE_MAX, CODE_MIN, EPILOGUE, HELPERS_MAX, PROGRAM_MAX, SLOTS_MAX, TABLE_AMPLE, TABLE_ENOUGH,
+};
 use crate::slots::{self, Opcodes};
-use crate::stream::{Answer, Case, Translation};
+use crate::stream::{Answer, Case, Translation, HELPER_LIMIT};
 
-/// Length of the epilogue.
-const EPILOGUE: i64 = 16;
 /// Jumps of a program that is to be trimmed stay below this slot.
 const TRIMMED_REACH: usize = 40;
 
@@ -81,7 +82,9 @@ impl Generator {
         let mut case = self.small(random, faults);
         loop {
             match random.below(16) {
-                0..=3 => case.code_len = random.pick(&[0, 1, 2_048, 4_094, 4_095]),
+                0..=3 => {
+                    case.code_len = random.pick(&[0, 1, CODE_MIN / 2, CODE_MIN - 2, CODE_MIN - 1])
+                }
                 4..=7 => {
                     case.code_len = random.pick(&[CODE_MAX + 1, CODE_MAX + 2, 1 << 20, u32::MAX])
                 }
@@ -119,7 +122,7 @@ impl Generator {
         let Some(page) = page else { return Ok(case) };
         let nearly = random.between(-3, 3);
         let spread = random.between(-60, 45);
-        let body = CODE_MIN as i64 - EPILOGUE + random.pick(&[nearly, nearly, spread]);
+        let body = CODE_MIN as i64 - EPILOGUE as i64 + random.pick(&[nearly, nearly, spread]);
         let fits = |location: &u32| *location > 0 && *location as i64 <= body;
         let kept = page.locations.iter().rposition(fits).unwrap_or(0);
         let missing = body - page.locations[kept] as i64;
@@ -127,7 +130,7 @@ impl Generator {
         for _ in 0..missing.min(100) {
             program.extend(slots::slot(ebpf::EXIT, 0, 0, 0, 0));
         }
-        let case = Case { code_len: CODE_MIN, table_lens: [4_096; 3], program, ..case };
+        let case = Case { code_len: CODE_MIN, table_lens: [TABLE_AMPLE; 3], program, ..case };
         Ok(self.sometimes_spoiled(random, case))
     }
 
@@ -166,22 +169,24 @@ impl Generator {
         case
     }
 
-    /// A program near the limit of 2,048 slots, in a page near the size of its
-    /// code or the largest.
+    /// A program near the limit, in a page near the size of its code (8 or 12
+    /// bytes a slot) or the largest.
     fn long(&mut self, random: &mut Random) -> Case {
-        let n = random.pick(&[2_046, 2_047, 2_048, 2_048, 2_049]);
+        let n = random.pick(&[SLOTS_MAX - 2, SLOTS_MAX - 1, SLOTS_MAX, SLOTS_MAX, SLOTS_MAX + 1]);
         let (ids, addresses) = few_helpers(random);
         let faults = random.below(2);
         let program = self.program(random, &ids, n, faults);
         let mut case = framed(random, program, ids, addresses);
-        case.code_len = random.pick(&[16_384, 24_576, CODE_MAX - 1, CODE_MAX]);
+        let most = SLOTS_MAX as u32;
+        case.code_len = random.pick(&[8 * most, 12 * most, CODE_MAX - 1, CODE_MAX]);
         case
     }
 
     /// Helper lists at their limit, or just above it.
     fn many_helpers(&self, random: &mut Random) -> Case {
         let mut case = self.small(random, 0);
-        let count = random.pick(&[255, 256, 256, 257]);
+        let most = HELPERS_MAX as u32;
+        let count = random.pick(&[most - 1, most, most, most + 1]);
         let first = random.number() as u32;
         case.helper_ids = (0..count).map(|at| first.wrapping_add(at * 3)).collect();
         case.helper_addresses = (0..count).map(|_| address(random)).collect();
@@ -220,7 +225,7 @@ fn framed(random: &mut Random, program: Vec<u8>, ids: Vec<u32>, addresses: Vec<u
         0 => CODE_MAX,
         1 => CODE_MAX - 1,
         2..=7 => CODE_MIN + 1,
-        8..=15 => random.between(4_096, 8_192) as u32,
+        8..=15 => random.between(CODE_MIN as i64, 2 * CODE_MIN as i64) as u32,
         _ => CODE_MIN,
     };
     Case {
@@ -236,9 +241,9 @@ fn framed(random: &mut Random, program: Vec<u8>, ids: Vec<u32>, addresses: Vec<u
 
 /// Refusal 3, from its edge on; now and then one byte below it.
 fn overlong(random: &mut Random, case: &mut Case) {
-    let len = random.pick(&[16_383, 16_384, 16_385, 16_386, 16_391, 16_392, 16_400, 20_000]);
-    case.program.resize(len, 0);
-    case.table_lens = [random.pick(&[2_048, 2_049, 4_096]); 3];
+    let beyond = random.pick(&[-1, 0, 1, 2, 7, 8, 16, 3_616]);
+    case.program.resize(PROGRAM_MAX.saturating_add_signed(beyond), 0);
+    case.table_lens = [random.pick(&[TABLE_ENOUGH - 1, TABLE_ENOUGH, TABLE_AMPLE]); 3];
 }
 
 /// Refusal 4: one table, or two, or three, has fewer than n+1 entries.
@@ -259,7 +264,8 @@ fn bad_helpers(random: &mut Random, case: &mut Case) {
         2 if !case.helper_ids.is_empty() => case.helper_addresses.clear(),
         2 | 3 => case.helper_ids.push(0x0bad_0bad),
         4 if random.one_in(4) => {
-            let count = random.pick(&[257, 258, 512]);
+            let most = HELPERS_MAX as u32;
+            let count = random.pick(&[most + 1, most + 2, HELPER_LIMIT as u32]);
             case.helper_ids = (0..count).collect();
             case.helper_addresses = (0..count as u64).collect();
         }
@@ -271,6 +277,6 @@ fn bad_helpers(random: &mut Random, case: &mut Case) {
         }
     }
     // More than the format carries cannot be asked.
-    case.helper_ids.truncate(512);
-    case.helper_addresses.truncate(512);
+    case.helper_ids.truncate(HELPER_LIMIT);
+    case.helper_addresses.truncate(HELPER_LIMIT);
 }

@@ -7,15 +7,11 @@
 //! and numbers here. An ending that has no number is a failure of the oracle,
 //! said in a sentence; it is never guessed at.
 
-use crate::observe::{self, debug_number, Panic, Seen, EXIT_ANCHOR, NO_LOCATION};
+use crate::observe::{self, debug_number, Panic, Seen, NO_LOCATION};
+use crate::sizes::{CODE_MAX, CODE_MIN, EPILOGUE, EXIT_ANCHOR, HELPERS_MAX, PROGRAM_MAX};
 use crate::stream::{Answer, Case, Translation};
 use crate::{ebpf, jit, HashMap};
 
-pub const CODE_MIN: u32 = 4_096;
-pub const CODE_MAX: u32 = 131_072;
-pub const PROGRAM_MAX: usize = 16_384;
-pub const HELPERS_MAX: usize = 256;
-const EPILOGUE: usize = 16;
 /// Bytes behind the code buffer that are watched as well.
 const GUARD: usize = 64;
 
@@ -225,8 +221,8 @@ mod tests {
         let mut judge = Judge::new();
         let page = [0x95, 0, 0, 0, 0, 0, 0, 0];
         judge.answer(&plain_case(&page)).expect("an answer");
-        assert!(judge.untouched(51, 4_096, "").is_ok());
+        assert!(judge.untouched(51, CODE_MIN as usize, "").is_ok());
         judge.page.0[4_000] ^= 1;
-        assert!(judge.untouched(51, 4_096, "").is_err());
+        assert!(judge.untouched(51, CODE_MIN as usize, "").is_err());
     }
 }

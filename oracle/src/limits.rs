@@ -4,17 +4,9 @@
 
 use crate::corpus::{case_of, EXIT};
 use crate::ebpf;
-use crate::judge::{CODE_MAX, CODE_MIN, HELPERS_MAX, PROGRAM_MAX};
-use crate::observe::EXIT_ANCHOR;
+use crate::sizes::{ANCHOR, CODE_LONGEST, CODE_MAX, CODE_MIN, HELPERS_MAX, PROGRAM_MAX, SLOTS_MAX};
 use crate::slots::{plain_case, slot, wide};
 use crate::stream::Case;
-
-/// Slots of the longest program.
-const SLOTS_MAX: usize = PROGRAM_MAX / 8;
-const ANCHOR: i32 = EXIT_ANCHOR as i32;
-/// The longest code that any program has: 2,048 times the longest slot's, the
-/// longest prologue and the epilogue.
-const CODE_LONGEST: u32 = 42 * SLOTS_MAX as u32 + 49 + 16;
 
 pub fn cases() -> Vec<Case> {
     let mut list = many_helpers();
@@ -68,13 +60,19 @@ fn many_helpers() -> Vec<Case> {
             }
         }
     }
-    for (one, other) in [(0, 1), (0, 255), (127, 128), (1, 254), (254, 255)] {
+    let last = HELPERS_MAX - 1;
+    for (one, other) in
+        [(0, 1), (0, last), (last / 2, last / 2 + 1), (1, last - 1), (last - 1, last)]
+    {
         for mut ids in [rising(HELPERS_MAX), falling(HELPERS_MAX)] {
             ids[other] = ids[one];
             list.push(calling(ids[one], ids, addresses(HELPERS_MAX)));
         }
     }
-    for (ids, count) in [(256, 255), (255, 256), (256, 0), (0, 256), (257, 256), (256, 257)] {
+    let all = HELPERS_MAX;
+    for (ids, count) in
+        [(all, all - 1), (all - 1, all), (all, 0), (0, all), (all + 1, all), (all, all + 1)]
+    {
         list.push(calling(0, rising(ids), addresses(count)));
     }
     list
@@ -144,7 +142,7 @@ fn pages() -> Vec<Case> {
         list.push(Case { code_len, use_mbuff: true, update_data_ptr: true, ..case_of(&[EXIT]) });
     }
     let longest = slot(ebpf::DIV64_REG, 4, 5, 0, 0).repeat(SLOTS_MAX);
-    for code_len in [CODE_LONGEST - 1, CODE_LONGEST] {
+    for code_len in [CODE_LONGEST as u32 - 1, CODE_LONGEST as u32] {
         let case = plain_case(&longest);
         list.push(Case { code_len, use_mbuff: true, update_data_ptr: true, ..case });
     }

@@ -11,6 +11,7 @@ mod limits;
 mod observe;
 mod program;
 mod random;
+mod sizes;
 mod slots;
 mod stream;
 #[cfg(test)]

@@ -7,7 +7,7 @@
 //!
 //! - `pc_locs[slot] = ..` tells which slot is being translated,
 //! - `jumps.push(..)` tells a jump's field and target, made by that slot,
-//! - `special_targets.insert(1000001, ..)` tells that the epilogue has begun,
+//! - `special_targets.insert(EXIT_ANCHOR, ..)` tells that the epilogue has begun,
 //! - `special_targets.get(..)` tells that the next jump is being resolved,
 //! - dropping `pc_locs` leaves the finished locations behind.
 //!
@@ -23,10 +23,11 @@ use std::panic::{self, AssertUnwindSafe};
 use std::sync::Once;
 use std::vec::Vec as List;
 
-use crate::ebpf::Helper;
+use crate::ebpf::{Helper, PROG_MAX_INSNS};
 
-/// The target that stands for the exit anchor.
-pub const EXIT_ANCHOR: isize = 1_000_001;
+/// The target that stands for the exit anchor: `TARGET_PC_EXIT` of jit.rs, which
+/// is private there.
+pub const EXIT_ANCHOR: isize = PROG_MAX_INSNS as isize + 1;
 
 /// What `pc_locs[target]` says where there is no such entry.
 pub const NO_LOCATION: &str = "no location is kept for this target";

@@ -3,6 +3,7 @@
 
 use crate::ebpf;
 use crate::random::Random;
+use crate::sizes::ANCHOR;
 use crate::slots::{self, jumps_by_off, slot, Opcodes, LAST_REGISTER};
 
 /// Opcodes with more to them than the rest, taken more often.
@@ -75,7 +76,7 @@ fn good_slot(random: &mut Random, setting: &Setting, at: usize, opc: u8) -> [u8;
         ebpf::CALL if random.one_in(2) && !setting.helper_ids.is_empty() => {
             slot(opc, dst, 0, offset(random), random.pick(setting.helper_ids) as i32)
         }
-        ebpf::CALL if random.one_in(4) => slot(opc, dst, 1, offset(random), 1_000_000 - at as i32),
+        ebpf::CALL if random.one_in(4) => slot(opc, dst, 1, offset(random), ANCHOR - at as i32 - 1),
         ebpf::CALL => slot(opc, dst, 1, offset(random), target),
         _ => slot(opc, dst, src, offset(random), immediate(random)),
     }
@@ -228,7 +229,8 @@ fn bad_jump(
     let near = random.pick(&[-1, -1, -2, -129, n + 1, n + 1, n + 2, n + 127]);
     if random.one_in(3) {
         // Beside the anchor, and what would be the anchor from another slot.
-        let far = random.pick(&[999_999, 1_000_000, 1_000_002, 1_000_002 + at, 1_000_003 + at]);
+        let far =
+            random.pick(&[ANCHOR - 2, ANCHOR - 1, ANCHOR + 1, ANCHOR + at + 1, ANCHOR + at + 2]);
         let edge = random.pick(&[i32::MAX, i32::MIN]);
         let imm = random.pick(&[near - at - 1, far - at - 1, edge]);
         return slot(ebpf::CALL, dst, 1, 0, imm);

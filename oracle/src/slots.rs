@@ -3,6 +3,7 @@
 
 use crate::ebpf;
 use crate::judge::Judge;
+use crate::sizes::CODE_MIN;
 use crate::stream::{Answer, Case};
 
 /// Highest register number that a slot may name.
@@ -83,7 +84,7 @@ pub fn plain_case(program: &[u8]) -> Case {
     Case {
         use_mbuff: false,
         update_data_ptr: false,
-        code_len: 4_096,
+        code_len: CODE_MIN,
         table_lens: [entries; 3],
         helper_ids: Vec::new(),
         helper_addresses: Vec::new(),

@@ -9,8 +9,8 @@ use std::fmt;
 use std::io::{self, Read, Write};
 
 /// The longest program and helper list that a case may hold.
-const PROGRAM_LIMIT: usize = 32_768;
-const HELPER_LIMIT: usize = 512;
+pub const PROGRAM_LIMIT: usize = 32_768;
+pub const HELPER_LIMIT: usize = 512;
 const CASE_LIMIT: usize =
     1 + 4 + 12 + (4 + 4 * HELPER_LIMIT) + (4 + 8 * HELPER_LIMIT) + (4 + PROGRAM_LIMIT);
 /// No answer comes near this; a longer one means that the stream is no stream

@@ -36,17 +36,27 @@ mod tests;
 pub use page::Page;
 pub use refusal::{Reason, Refusal};
 
-/// The longest program in bytes: 2,048 slots.
-pub const PROGRAM_MAX: usize = 16_384;
+/// Bytes of a slot.
+const SLOT: usize = 8;
+/// The most slots of a program.
+pub const SLOTS_MAX: usize = 2_048;
+/// The longest program in bytes.
+pub const PROGRAM_MAX: usize = SLOT * SLOTS_MAX;
 /// The shortest code buffer in bytes.
 pub const CODE_MIN: usize = 4_096;
 /// The longest code buffer in bytes.
 pub const CODE_MAX: usize = 131_072;
-/// Bytes in which every program's code finds room: a multiple of 4,096, and
-/// no code is longer than 86,081.
-pub const CODE_ENOUGH: usize = 90_112;
+/// The most code of a slot in bytes.
+pub const SLOT_CODE_MAX: usize = 42;
+/// The most code around all slots in bytes: the prologue and the epilogue.
+pub const FRAME_CODE_MAX: usize = 65;
+/// The longest code in bytes that a program has.
+pub const CODE_LONGEST: usize = SLOT_CODE_MAX * SLOTS_MAX + FRAME_CODE_MAX;
+/// Bytes in which every program's code finds room: that, rounded up to a
+/// multiple of [`CODE_MIN`].
+pub const CODE_ENOUGH: usize = CODE_LONGEST.next_multiple_of(CODE_MIN);
 /// Entries that do for every program in each table.
-pub const TABLE_ENOUGH: usize = PROGRAM_MAX / 8 + 1;
+pub const TABLE_ENOUGH: usize = SLOTS_MAX + 1;
 /// The most helpers.
 pub const HELPERS_MAX: usize = 256;
 /// In the table of targets: a jump to the exit.

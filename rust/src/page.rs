@@ -1,13 +1,15 @@
 //! Buffers of sufficient size, owned.
 
-use crate::{translate, Accepted, Flags, Helpers, Refusal, Tables, CODE_ENOUGH, TABLE_ENOUGH};
+use crate::{
+    translate, Accepted, Flags, Helpers, Refusal, Tables, CODE_ENOUGH, SLOT, TABLE_ENOUGH,
+};
 
 /// A page with its tables: memory in which every program finds room, and what
 /// the last accepted one left there.
 ///
-/// It holds 114,700 bytes of buffers and allocates nothing, so it is as large
-/// itself: `static`, boxed, or on a stack that has room for it. The code is to
-/// be copied to a mapping of its own, which is then made executable.
+/// It holds more than 100 KiB of buffers and allocates nothing, so it is as
+/// large itself: `static`, boxed, or on a stack that has room for it. The code
+/// is to be copied to a mapping of its own, which is then made executable.
 pub struct Page {
     code: [u8; CODE_ENOUGH],
     locations: [u32; TABLE_ENOUGH],
@@ -45,7 +47,7 @@ impl Page {
             targets: &mut self.targets,
         };
         self.accepted = translate(program, flags, helpers, &mut self.code, tables)?;
-        self.entries = program.len() / 8 + 1;
+        self.entries = program.len() / SLOT + 1;
         Ok(self.code())
     }
 

@@ -4,15 +4,15 @@
 
 extern crate std;
 use std::format;
-use std::string::String;
 use std::vec;
 use std::vec::Vec;
 
-use crate::raw::SENTENCE_ENOUGH;
 use crate::{
-    translate, Accepted, Flags, Helpers, Page, Reason, Refusal, Tables, CODE_ENOUGH, CODE_MAX,
-    CODE_MIN, EXIT_TARGET, HELPERS_MAX, PROGRAM_MAX, TABLE_ENOUGH,
+    translate, Accepted, Flags, Helpers, Page, Reason, Refusal, Tables, CODE_ENOUGH, CODE_LONGEST,
+    CODE_MAX, CODE_MIN, EXIT_TARGET, HELPERS_MAX, PROGRAM_MAX, SLOTS_MAX, TABLE_ENOUGH,
 };
+
+mod numbers;
 
 const EXIT: [u8; 8] = [0x95, 0, 0, 0, 0, 0, 0, 0];
 const EXIT_CODE: [u8; 51] = [
@@ -51,7 +51,7 @@ impl Lent {
 }
 
 fn refused(program: &[u8]) -> Refusal {
-    let mut lent = Lent::new(4_096, 64);
+    let mut lent = Lent::new(CODE_MIN, 64);
     let refusal =
         lent.translate(program, Flags::default(), Helpers::default()).expect_err("refused");
     assert!(lent.untouched());
@@ -60,7 +60,7 @@ fn refused(program: &[u8]) -> Refusal {
 
 #[test]
 fn exit_alone_and_what_is_behind_it() {
-    let mut lent = Lent::new(4_096, 4);
+    let mut lent = Lent::new(CODE_MIN, 4);
     let accepted = lent.translate(&EXIT, Flags::default(), Helpers::default());
     assert_eq!(accepted, Ok(Accepted { length: 51, jumps: 1 }));
     assert_eq!(lent.code[..51], EXIT_CODE);
@@ -89,10 +89,10 @@ fn a_page_owns_what_it_was_given() -> Result<(), Refusal> {
 
 #[test]
 fn every_program_finds_room_in_a_page() -> Result<(), Refusal> {
-    let longest = [0x3f, 0x54, 0, 0, 0, 0, 0, 0].repeat(PROGRAM_MAX / 8);
+    let longest = [0x3f, 0x54, 0, 0, 0, 0, 0, 0].repeat(SLOTS_MAX);
     let flags = Flags { use_mbuff: true, update_data_ptr: true };
     let mut page = Page::new();
-    assert_eq!(page.translate(&longest, flags, Helpers::default())?.len(), 86_081);
+    assert_eq!(page.translate(&longest, flags, Helpers::default())?.len(), CODE_LONGEST);
     assert_eq!((page.locations().len(), page.targets().len()), (TABLE_ENOUGH, TABLE_ENOUGH));
     Ok(())
 }
@@ -101,7 +101,7 @@ fn every_program_finds_room_in_a_page() -> Result<(), Refusal> {
 fn each_flag_reaches_the_library() {
     let length = |use_mbuff, update_data_ptr| {
         let flags = Flags { use_mbuff, update_data_ptr };
-        Lent::new(4_096, 2).translate(&EXIT, flags, Helpers::default()).expect("accepted").length
+        Lent::new(CODE_MIN, 2).translate(&EXIT, flags, Helpers::default()).expect("accepted").length
     };
     // The prologue is 34, 34, 31 or 49 bytes; EXIT and the epilogue are 17.
     let lengths =
@@ -113,7 +113,7 @@ fn each_flag_reaches_the_library() {
 fn a_listed_helper_is_called() {
     let call = [0x85, 0, 0, 0, 7, 0, 0, 0];
     let helpers = Helpers { ids: &[6, 7], addresses: &[1, 0x1122_3344_5566_7788] };
-    let mut lent = Lent::new(4_096, 2);
+    let mut lent = Lent::new(CODE_MIN, 2);
     let accepted = lent.translate(&call, Flags::default(), helpers).expect("accepted");
     let code = &lent.code[..accepted.length];
     assert!(code.windows(8).any(|bytes| bytes == 0x1122_3344_5566_7788u64.to_le_bytes()));
@@ -131,7 +131,7 @@ fn buffers_keep_their_own_lengths() {
     assert_eq!(reason(CODE_MIN - 1, [2, 2, 2]), Reason::CodeTooShort);
     assert_eq!(reason(CODE_MAX + 1, [2, 2, 2]), Reason::CodeTooLong);
     for short in [[1, 2, 2], [2, 1, 2], [2, 2, 1]] {
-        assert_eq!(reason(4_096, short), Reason::TableTooShort);
+        assert_eq!(reason(CODE_MIN, short), Reason::TableTooShort);
     }
 }
 
@@ -142,7 +142,7 @@ fn the_limits_are_the_librarys() {
         let helpers = Helpers { ids: &ids, addresses: &vec![0; helpers] };
         Lent::new(code, TABLE_ENOUGH).translate(program, Flags::default(), helpers).is_ok()
     };
-    let longest = EXIT.repeat(PROGRAM_MAX / 8 + 1);
+    let longest = EXIT.repeat(SLOTS_MAX + 1);
     for code in [CODE_MIN, CODE_ENOUGH, CODE_MAX] {
         assert!(accepts(code, &EXIT, 0));
     }
@@ -150,39 +150,6 @@ fn the_limits_are_the_librarys() {
     assert!(!accepts(CODE_MIN, &longest, 0));
     assert!(accepts(CODE_MIN, &EXIT, HELPERS_MAX));
     assert!(!accepts(CODE_MIN, &EXIT, HELPERS_MAX + 1));
-}
-
-/// `CodeTooShort` as C spells it: `CODE_TOO_SHORT`.
-fn in_c(reason: Reason) -> String {
-    let mut name = String::new();
-    for letter in format!("{reason:?}").chars() {
-        if letter.is_uppercase() && !name.is_empty() {
-            name.push('_');
-        }
-        name.push(letter.to_ascii_uppercase());
-    }
-    name
-}
-
-#[test]
-fn the_header_has_the_same_numbers() {
-    let header = include_str!("../../include/ndakoleem.h");
-    let says = |name: &str, number: usize| {
-        let line = format!("    NDAKOLEEM_{name} = {number}");
-        let next = header.split_once(&line).map(|(_, rest)| rest.starts_with([',', ' ']));
-        assert_eq!(next, Some(true), "{line}");
-    };
-    says("PROGRAM_MAX", PROGRAM_MAX);
-    says("CODE_MIN", CODE_MIN);
-    says("CODE_MAX", CODE_MAX);
-    says("CODE_ENOUGH", CODE_ENOUGH);
-    says("TABLE_ENOUGH", TABLE_ENOUGH);
-    says("HELPERS_MAX", HELPERS_MAX);
-    says("EXIT_TARGET", EXIT_TARGET as usize);
-    says("SENTENCE_ENOUGH", SENTENCE_ENOUGH);
-    for number in 1..=14 {
-        says(&in_c(Reason::of(number).expect("a reason")), number as usize);
-    }
 }
 
 #[test]

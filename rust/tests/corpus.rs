@@ -13,13 +13,13 @@ mod stream;
 use std::fs::File;
 use std::io::BufReader;
 
-use ndakoleem::{translate, Flags, Helpers, Tables};
+use ndakoleem::{translate, Flags, Helpers, Tables, CODE_MAX, SLOTS_MAX};
 use stream::{Answer, Case, Records, Translation};
 
 /// One byte more than a page may have, and more entries than any program
 /// needs: what is longer is cut to these, which no answer can tell.
-const CODE: usize = 131_073;
-const ENTRIES: usize = 4_096;
+const CODE: usize = CODE_MAX + 1;
+const ENTRIES: usize = 2 * SLOTS_MAX;
 
 fn byte_mark(at: usize) -> u8 {
     (at * 31 + 7) as u8
@@ -68,14 +68,14 @@ fn answer(case: &Case) -> Answer {
 
 fn opened(name: &str) -> BufReader<File> {
     // Tests run in the crate's folder.
-    let path = format!("../crates/corpus/data/{name}");
+    let path = format!("../crates/program_answers/{name}");
     BufReader::new(File::open(&path).unwrap_or_else(|error| panic!("{path}: {error}")))
 }
 
 #[test]
 fn every_answer_is_the_stored_one() {
-    let mut cases: Records<_> = stream::case_records(opened("cases"));
-    let mut answers = stream::answer_records(opened("answers"));
+    let mut cases: Records<_> = stream::case_records(opened("stdin"));
+    let mut answers = stream::answer_records(opened("stdout"));
     let mut count = 0;
     while let Some(case) = cases.next_case().expect("cases") {
         let stored = answers.next_answer().expect("answers").expect("an answer to each case");

@@ -1,6 +1,7 @@
 pub mod Pick
-pub mod Tests
 pub mod Bytes
 pub mod Cases
-pub mod Table
+pub mod Lent
+pub mod Widths
 pub mod Lists
+pub mod Table

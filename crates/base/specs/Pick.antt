@@ -1,5 +1,4 @@
 -- The choice by a test, at any type: how the definitions say "if".
--- Assumes nothing.
 use mathlib.Core.Bool.{Bool, true, false}
 
 abbrev pub pick : {A : Type 0} → Bool → A → A → A

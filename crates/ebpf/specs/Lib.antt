@@ -1,5 +1,4 @@
 pub mod Insn
 pub mod Opcode
 pub mod Kinds
-pub mod Masks
 pub mod Named

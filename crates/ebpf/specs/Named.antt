@@ -1,12 +1,7 @@
 -- The opcodes that rbpf names: the 123 constants of its src/ebpf.rs in its order, each with its byte and the kind that the name says.
--- Assumes nothing.
-use mathlib.Core.Path.{_≡_, refl}
 use mathlib.Core.List.{List, [], _∷_, _++_}
-use Prim.Native.Nat.{ℕ, _+_, _<_}
-use lib.Dec.{eqb}
-use Rattle.base.specs.Pick.{pick}
+use Prim.Native.Nat.{ℕ, _+_}
 use Rattle.base.specs.Cases.{Arm, _⇒_}
-use Rattle.base.specs.Table.{values, agree}
 use Rattle.base.specs.declared.Width.{Width}
 use Rattle.base.specs.declared.Width.the-variants.{W32, W64}
 use Rattle.base.specs.declared.Size.{Size}
@@ -20,8 +15,7 @@ use Rattle.ebpf.specs.declared.kind.Condition.the-variants.{Jeq, Jgt, Jg
 use Rattle.ebpf.specs.declared.kind.Kind.{Kind}
 use Rattle.ebpf.specs.declared.kind.Kind.the-variants.{LdAbs, LdInd, LdDwImm, LdReg, StImm, StReg, Alu, Shift, Neg, MulDivMod, Mov, Le, Be, Ja, Jump, Call, Exit}
 use Rattle.ebpf.specs.declared.kind.Lookup.{Lookup}
-use Rattle.ebpf.specs.declared.kind.Lookup.the-variants.{Known, Unimplemented, Unknown}
-use Rattle.ebpf.specs.Opcode.{kindOf}
+use Rattle.ebpf.specs.declared.kind.Lookup.the-variants.{Known, Unimplemented}
 
 -- names that end in _B, _H, _W, _DW (BPF_B 0x10, BPF_H 0x08, BPF_W 0x00, BPF_DW 0x18), or have that before _REG or _IMM
 abbrev inSizes : ℕ → (Size → Kind) → List (Arm Lookup)
@@ -98,23 +92,3 @@ bytesOf (o ⇒ l ∷ r) = o ∷ bytesOf r
 
 unfoldable pub opcodes : List ℕ
 opcodes = bytesOf named
-
--- what the names of an opcode say
-abbrev pub said : List (Arm Lookup) → ℕ → List Lookup
-said [] o = []
-said (n ⇒ l ∷ r) o = pick (eqb o n) (l ∷ said r o) (said r o)
-
--- what is to be said of an opcode: its kind, once, or nothing where it is unknown
-abbrev pub once : Lookup → List Lookup
-once (Known k) = Known k ∷ []
-once Unimplemented = Unimplemented ∷ []
-once Unknown = []
-
--- the test, computed over all 256 opcodes
-says : values (said named) 0 256 ≡ values (λ o. once (kindOf o)) 0 256
-unfolding kindOf
-says = refl
-
--- THE LAW: an opcode that is not unknown has one name, which says its kind, and an unknown one has none. So no two names have one byte.
-pub named-once : (o : ℕ) → o < 256 → said named o ≡ once (kindOf o)
-named-once o h = agree (said named) (λ o. once (kindOf o)) 256 says o h

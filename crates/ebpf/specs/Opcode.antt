@@ -1,7 +1,6 @@
 -- What kind of slot an opcode makes, by the fields that RFC 9669 reads in it: the class (section 3.3), and then the source and the
 -- operation of arithmetic and jumps (section 4), or the size and the mode of loads and stores (section 5).
 -- The kinds are those that rbpf 0.4.1 translates; docs/DIFFERENCES.md lists where they are not the RFC's.
--- Assumes nothing.
 use mathlib.Core.List.{List, [], _∷_}
 use Prim.Native.Nat.{ℕ, _/_, _%_}
 use lib.Dec.{eqb}

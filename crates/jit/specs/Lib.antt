@@ -1,11 +1,9 @@
 pub mod Limits
+pub mod Room
 pub mod Refusals
 pub mod MulDivMod
 pub mod Slots
 pub mod Frame
 pub mod Translation
-pub mod Worked
-pub mod SlotSize
-pub mod Bounds
-pub mod Counted
-pub mod Constants
+pub mod Lent
+pub mod Passes

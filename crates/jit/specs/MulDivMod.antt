@@ -1,5 +1,4 @@
 -- What a multiplication, a division or a modulo becomes: `emit_muldivmod` of the Rust. The registers are machine numbers.
--- Assumes nothing.
 use mathlib.Core.Bool.{Bool, true, false, not}
 use mathlib.Core.List.{List, [], _∷_, _++_}
 use Prim.Native.Nat.{ℕ, _+_}

@@ -1,8 +1,8 @@
 -- The number and the slot of each refusal: the table of docs/REFUSALS.md. A refusal that names no slot gives 0.
--- Assumes nothing.
 use Prim.Native.Nat.{ℕ}
 use Rattle.jit.specs.declared.Refusal.{Refusal}
-use Rattle.jit.specs.declared.Refusal.the-variants.{PageTooShort, PageTooLong, ProgramTooLong, TableTooShort, BadHelpers, Torn, BadRegister, UnknownOpcode, Unimplemented, BadSwap, UnknownHelper, BadCall, NoRoom, BadTarget}
+use Rattle.jit.specs.declared.Refusal.the-variants.{PageTooShort, PageTooLong, ProgramTooLong, TableTooShort, BadHelpers, Torn, BadRegister}
+use Rattle.jit.specs.declared.Refusal.the-variants.{UnknownOpcode, Unimplemented, BadSwap, UnknownHelper, BadCall, NoRoom, BadTarget}
 
 abbrev pub numberOf : Refusal → ℕ
 numberOf PageTooShort = 1

@@ -1,6 +1,5 @@
 -- What each kind of slot becomes: the match of `jit_compile` in the Rust, kind by kind. Where RFC 9669 means something else,
 -- docs/DIFFERENCES.md has an entry.
--- Assumes nothing.
 use mathlib.Core.List.{[], _∷_}
 use Prim.Native.Nat.{ℕ, _+_, _%_, _^_}
 use lib.Dec.{ltb, eqb}
@@ -22,7 +21,8 @@ use Rattle.ebpf.specs.declared.kind.Kind.{Kind}
 use Rattle.ebpf.specs.declared.kind.Kind.the-variants.{LdAbs, LdInd, LdDwImm, LdReg, StImm, StReg, Alu, Shift, Neg, MulDivMod, Mov, Le, Be, Ja, Jump, Call, Exit}
 use Rattle.x86.specs.Registers.{RAX, RCX, RDX, RBX, RBP, RSI, RDI, R8, R9, R10, R11, R13, R14, R15}
 use Rattle.x86.specs.Instr as x86
-use Rattle.x86.specs.Instr.{op, push, pop, alu, aluImm, shiftImm, shiftCl, unary, movabs, rol16, bswap, load, store, storeImm, immBits, jump, jmp, call, jcc, callReg, ret, ADD, OR, AND, SUB, XOR, CMP, MOV, TEST, SHL, SHR, SAR, NEG, JB, JAE, JE, JNE, JBE, JA, JL, JGE, JLE, JG}
+use Rattle.x86.specs.Instr.{op, push, pop, alu, aluImm, shiftImm, shiftCl, unary, movabs, rol16, bswap, load, store, storeImm, immBits, jump, jmp, call, jcc}
+use Rattle.x86.specs.Instr.{callReg, ret, ADD, OR, AND, SUB, XOR, CMP, MOV, TEST, SHL, SHR, SAR, NEG, JB, JAE, JE, JNE, JBE, JA, JL, JGE, JLE, JG}
 use Rattle.x86.specs.Code.{to}
 use Rattle.jit.specs.MulDivMod.{Code, mulDivModImm, mulDivModReg}
 

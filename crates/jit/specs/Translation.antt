@@ -1,12 +1,11 @@
 -- The whole translation: for every program, pair of flags, helper lists, and lengths of the code buffer and the three tables either the
 -- finished code with the tables' first entries, or one refusal. Document 01 gives the order: the sizes, then the slots from 0
 -- upward, then the epilogue, then the targets.
--- Assumes nothing.
 use mathlib.Core.Bool.{Bool, true, false, _&&_, _||_, not}
 use mathlib.Core.List.{List, [], _∷_, _++_}
 use Prim.Native.Nat.{ℕ, zero, suc, _+_, _*_, _/_, _^_}
 use lib.Dec.{leb, ltb, eqb}
-use lib.ListN.{length, getD}
+use lib.ListN.{length}
 use Rattle.base.specs.Pick.{pick}
 use Rattle.base.specs.declared.Slot.{Slot}
 use Rattle.ebpf.specs.Insn.{readAt}
@@ -15,7 +14,7 @@ use Rattle.ebpf.specs.declared.insn.Insn.{Insn}
 use Rattle.ebpf.specs.declared.insn.Read.{Read}
 use Rattle.ebpf.specs.declared.insn.Read.the-variants.{Whole, Torn}
 use Rattle.ebpf.specs.declared.kind.Kind.{Kind}
-use Rattle.ebpf.specs.declared.kind.Kind.the-variants.{LdAbs, LdInd, LdDwImm, LdReg, StImm, StReg, Alu, Shift, Neg, MulDivMod, Mov, Le, Be, Ja, Jump, Call, Exit}
+use Rattle.ebpf.specs.declared.kind.Kind.the-variants.{LdAbs, LdInd, LdDwImm, LdReg, StImm, StReg, Alu, Shift, Neg, MulDivMod, Mov, Le, Be, Ja, Jump as JumpIf, Call, Exit}
 use Rattle.ebpf.specs.declared.kind.Lookup.{Lookup}
 use Rattle.ebpf.specs.declared.kind.Lookup.the-variants.{Known, Unimplemented, Unknown}
 use Rattle.jit.specs.declared.Flags.{Flags}
@@ -24,18 +23,27 @@ use Rattle.jit.specs.declared.Helper.the-variants.{Address, Missing}
 use Rattle.jit.specs.declared.Refusal.{Refusal}
 use Rattle.jit.specs.declared.Bad.{Bad}
 use Rattle.jit.specs.declared.Bad.the-variants.{Nowhere, At}
-use Rattle.x86.specs.Code.{size, targetsOf, fieldsOf, codeOf}
-use Rattle.jit.specs.Limits.{shortestPage, longestPage, longestProgram, mostHelpers, anchor}
+use Rattle.x86.specs.Instr.{Plain, Jump}
+use Rattle.x86.specs.Encode.{isa}
+use Rattle.x86.specs.Code.{size, targetsOf}
+use Rattle.code.specs.Page as pages
+pub use Rattle.code.specs.Page.{slotsWide, slotsIn, flat, entries, placeOf}
+unfoldable pub use Rattle.code.specs.Page.{goodTarget}
+use Rattle.jit.specs.Limits.{shortestPage, longestPage, longestProgram, mostHelpers}
 use Rattle.jit.specs.MulDivMod.{Code}
 use Rattle.jit.specs.Slots.{slotCode}
 use Rattle.jit.specs.Frame.{prologue, epilogue}
 
--- What is asked: contents of the program and the helper lists, lengths of the code buffer and of the tables.
-pub record Inputs : Type 0 where
+-- A filter: the program, and the helpers' ids and addresses.
+pub record Filter : Type 0 where
   pub program : List ℕ
-  pub flags : Flags
   pub ids : List ℕ
   pub addresses : List ℕ
+
+-- What is asked: a filter, the flags, and the lengths of the code buffer and of the tables.
+pub record Inputs : Type 0 where
+  pub filter : Filter
+  pub flags : Flags
   pub page : ℕ
   pub locations : ℕ
   pub fields : ℕ
@@ -59,9 +67,8 @@ helperOf (x ∷ ids) [] id = Missing
 helperOf (x ∷ ids) (a ∷ addresses) id = found (eqb x id) a (helperOf ids addresses id)
 
 -- One slot: the instructions of one slot, or of two.
-pub record Block : Type 0 where
-  pub code : Code
-  pub wide : Bool
+abbrev pub Block : Type 0
+Block = pages.Block Plain Jump
 
 abbrev pub wideKind : Kind → Bool
 wideKind (LdAbs z) = false
@@ -78,7 +85,7 @@ wideKind (Mov w s) = false
 wideKind Le = false
 wideKind Be = false
 wideKind Ja = false
-wideKind (Jump c w s) = false
+wideKind (JumpIf c w s) = false
 wideKind Call = false
 wideKind Exit = false
 
@@ -123,7 +130,7 @@ operandOf ids addresses (Mov w s) slot i next = has 0
 operandOf ids addresses Le slot i next = has 0
 operandOf ids addresses Be slot i next = pick (swapBits (i .imm)) (has 0) (lacks (Refusal.BadSwap (at slot)))
 operandOf ids addresses Ja slot i next = has 0
-operandOf ids addresses (Jump c w s) slot i next = has 0
+operandOf ids addresses (JumpIf c w s) slot i next = has 0
 operandOf ids addresses Call slot i next = callValue ids addresses slot i
 operandOf ids addresses Exit slot i next = has 0
 
@@ -149,8 +156,8 @@ stepRead ids addresses slot Torn next = stop (Refusal.Torn (at slot))
 stepRead ids addresses slot (Whole i) next =
     pick (goodRegisters i) (known ids addresses (kindOf (i .opc)) slot i next) (stop (Refusal.BadRegister (at slot)))
 
-unfoldable pub stepAt : (program ids addresses : List ℕ) → ℕ → Step
-stepAt program ids addresses slot = stepRead ids addresses slot (readAt program slot) (readAt program (slot + 1))
+unfoldable pub stepAt : (filter : Filter) → ℕ → Step
+stepAt filter slot = stepRead (filter .ids) (filter .addresses) slot (readAt (filter .program) slot) (readAt (filter .program) (slot + 1))
 
 -- All slots: a refusal, or the block of each.
 pub data Walk : Type 0 where
@@ -160,10 +167,6 @@ pub data Walk : Type 0 where
 abbrev pub joined : List Block → Walk → Walk
 joined bs (refused r) = refused r
 joined bs (done cs) = done (bs ++ cs)
-
-abbrev pub slotsWide : Bool → ℕ
-slotsWide true = 2
-slotsWide false = 1
 
 -- a slot's code has to end within the buffer (13)
 abbrev pub within : Bool → ℕ → Block → Walk → Walk
@@ -175,30 +178,14 @@ after page slot place (stop r) k = refused r
 after page slot place (go b) k = within (leb (place + size (b .code)) page) slot b (k (slot + slotsWide (b .wide)) (place + size (b .code)))
 
 -- the slots from one on, its code at a place; the fuel is at least the number of slots left
-unfoldable pub rest : (fuel : ℕ) → (program ids addresses : List ℕ) → (page slot place : ℕ) → Walk
-rest zero program ids addresses page slot place = done []
-rest (suc fuel) program ids addresses page slot place =
-    pick (ltb (8 * slot) (length program))
-    (after page slot place (stepAt program ids addresses slot) (λ s p. rest fuel program ids addresses page s p))
+unfoldable pub rest : (fuel : ℕ) → (filter : Filter) → (page slot place : ℕ) → Walk
+rest zero filter page slot place = done []
+rest (suc fuel) filter page slot place =
+    pick (ltb (8 * slot) (length (filter .program)))
+    (after page slot place (stepAt filter slot) (λ s p. rest fuel filter page s p))
     (done [])
 
--- What is read off the blocks: their code, and the location of each slot, 0 for the second half of a wide load.
-abbrev pub flat : List Block → Code
-flat [] = []
-flat (b ∷ bs) = b .code ++ flat bs
-
-abbrev pub entries : (place : ℕ) → Bool → List ℕ
-entries place true = place ∷ 0 ∷ []
-entries place false = place ∷ []
-
-abbrev pub starts : (place : ℕ) → List Block → List ℕ
-starts place [] = []
-starts place (b ∷ bs) = entries place (b .wide) ++ starts (place + size (b .code)) bs
-
 -- A recorded target is a slot, or n, or the anchor. The first that is none of these is refused at the slot of its jump (14).
-unfoldable pub goodTarget : (n target : ℕ) → Bool
-goodTarget n t = leb t n || eqb t anchor
-
 abbrev pub orElse : Bad → Bad → Bad
 orElse Nowhere b = b
 orElse (At s) b = At s
@@ -216,23 +203,18 @@ pub data Outcome : Type 0 where
   no : Refusal → Outcome
   yes : (code locations fields targets : List ℕ) → Outcome
 
+-- The page: its code, and the location of each slot.
+abbrev pub pageOf : Flags → List Block → pages.Page Plain Jump
+pageOf f bs = record { prologue = prologue f; blocks = bs; epilogue = epilogue }
+
 abbrev pub whole : Flags → List Block → Code
-whole f bs = prologue f ++ (flat bs ++ epilogue)
+whole f bs = pages.whole (pageOf f bs)
 
 abbrev pub locations : Flags → List Block → List ℕ
-locations f bs = starts (size (prologue f)) bs ++ (0 ∷ [])
-
--- the exit anchor: where the epilogue begins
-abbrev pub exitOf : Flags → List Block → ℕ
-exitOf f bs = size (prologue f) + size (flat bs)
-
--- where a target lies: the exit, or its location, which is 0, the page's first byte, for n and for a second half
-abbrev pub placeOf : (locations : List ℕ) → (exit target : ℕ) → ℕ
-placeOf locs exit t = pick (eqb t anchor) exit (getD locs t 0)
+locations f bs = pages.locations isa (pageOf f bs)
 
 abbrev pub accepted : Flags → List Block → Outcome
-accepted f bs =
-    yes (codeOf (placeOf (locations f bs) (exitOf f bs)) (whole f bs)) (locations f bs) (fieldsOf 0 (whole f bs)) (targetsOf (whole f bs))
+accepted f bs = let page = pageOf f bs in yes (pages.pageCode isa page) (locations f bs) (pages.fieldTable isa page) (pages.targetTable isa page)
 
 abbrev pub unlessBad : Bad → Outcome → Outcome
 unlessBad Nowhere o = o
@@ -243,7 +225,7 @@ finish f n page (refused r) = no r
 finish f n page (done bs) = pick (leb (size (whole f bs)) page) (unlessBad (firstBad n 0 bs) (accepted f bs)) (no (Refusal.NoRoom (at n)))
 
 abbrev pub walkOf : Inputs → Walk
-walkOf x = rest (suc (slotsOf (x .program))) (x .program) (x .ids) (x .addresses) (x .page) 0 (size (prologue (x .flags)))
+walkOf x = rest (suc (slotsOf (x .filter .program))) (x .filter) (x .page) 0 (size (prologue (x .flags)))
 
 -- Sizes (1 to 5), before anything is read of the program.
 abbrev pub listed : ℕ → List ℕ → Bool
@@ -259,12 +241,12 @@ badHelpers ids addresses = not (eqb (length ids) (length addresses)) || (ltb mos
 
 unfoldable pub sizesOf : Inputs → Outcome → Outcome
 sizesOf x o =
-    let n = slotsOf (x .program) in
+    let n = slotsOf (x .filter .program) in
     pick (ltb (x .page) shortestPage) (no Refusal.PageTooShort)
     (pick (ltb longestPage (x .page)) (no Refusal.PageTooLong)
-    (pick (ltb longestProgram (length (x .program))) (no Refusal.ProgramTooLong)
+    (pick (ltb longestProgram (length (x .filter .program))) (no Refusal.ProgramTooLong)
     (pick (leb (x .locations) n || (leb (x .fields) n || leb (x .targets) n)) (no Refusal.TableTooShort)
-    (pick (badHelpers (x .ids) (x .addresses)) (no Refusal.BadHelpers) o))))
+    (pick (badHelpers (x .filter .ids) (x .filter .addresses)) (no Refusal.BadHelpers) o))))
 
 unfoldable pub translationOf : Inputs → Outcome
-translationOf x = sizesOf x (finish (x .flags) (slotsOf (x .program)) (x .page) (walkOf x))
+translationOf x = sizesOf x (finish (x .flags) (slotsOf (x .filter .program)) (x .page) (walkOf x))

@@ -2,7 +2,7 @@
 use base::Slot;
 use ebpf::constants::PROG_MAX_INSNS;
 
-// The limits, as specs/Limits.antt has them.
+// The limits, as specs/Limits.antt has them; the sizes of code, as specs/Room.antt does.
 // The code buffer, in bytes.
 pub const SHORTEST_PAGE: usize = 4096;
 

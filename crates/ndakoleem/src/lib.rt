@@ -1,13 +1,11 @@
 // The translator and the sentences as C sees them: the library that `rt staticlib ndakoleem` writes. It only hands on what it is given and
 // puts the answer into a struct of four numbers, since an enum does not pass the boundary. The declarations for C are include/ndakoleem.h.
-ghost use lib.ListN.{length};
-ghost use Rattle.jit.specs.Translation.{Inputs};
-ghost use Rattle.ndakoleem.specs.Exported.{Exported};
-ghost use Rattle.sentences.specs.Enough.{Sentence};
-ghost use Rattle.sentences.specs.Sentences.{sentenceOf};
+ghost use Rattle.jit_translate.specs.Lent.{asked};
+ghost use Rattle.ndakoleem.specs.Lent.{flagged, Exported};
+ghost use Rattle.refusals_text.specs.Lent.{Sentence};
 use jit::Flags;
-use translator::translate::Answer;
-use translator::translate::translate;
+use jit_translate::translate::Answer;
+use jit_translate::translate::translate;
 
 // Accepted: number 0, slot 0, the code's length and the count of jumps. Refused: the number and slot of docs/REFUSALS.md, and 0 for the other two.
 #[repr(C)]
@@ -31,7 +29,8 @@ pub extern "C" fn ndakoleem_translate(
     fields: &mut [u32],
     targets: &mut [u32],
 ) -> Translation
-    ensures { λ r. ⌜ Exported (record { program = now (program .entry); flags = record { «use_mbuff» = «use_mbuff»; «update_data_ptr» = «update_data_ptr» }; ids = now (ids .entry); addresses = now (addresses .entry); page = length (now (code .entry)); locations = length (now (locations .entry)); fields = length (now (fields .entry)); targets = length (now (targets .entry)) }) (now (code .entry)) (now (code .exit)) (now (locations .entry)) (now (locations .exit)) (now (fields .entry)) (now (fields .exit)) (now (targets .entry)) (now (targets .exit)) r ⌝ }
+    ensures { λ r. ⌜ Exported (asked program (flagged «use_mbuff» «update_data_ptr») ids addresses code locations fields targets)
+        code locations fields targets r ⌝ }
 {
     let flags = Flags {
         use_mbuff: use_mbuff,
@@ -71,7 +70,7 @@ pub extern "C" fn ndakoleem_sentence(
     slot: usize,
     out: &mut [u8],
 ) -> usize
-    ensures { λ r. ⌜ Sentence (now (out .entry)) (now (out .exit)) r (sentenceOf (now (program .entry)) number slot) ⌝ }
+    ensures { λ r. ⌜ Sentence program number slot out r ⌝ }
 {
-    sentences::sentence(program, number, slot, out)
+    refusals_text::sentence(program, number, slot, out)
 }

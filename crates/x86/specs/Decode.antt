@@ -1,23 +1,25 @@
 -- The instruction reader, as Intel's manual tells how to read (volume 2): the prefix 66, then REX, the opcode, ModRM, the displacement,
 -- the immediate (section 2.1). It reads the forms of Instr.antt, and what it does not know is `bad`. It takes nothing from Encode.antt,
 -- so that the two check one another in RoundTrip.antt. What it is given are bytes, numbers below 256.
--- Assumes nothing.
 use mathlib.Core.Bool.{Bool, true, false}
 use mathlib.Core.List.{List, [], _∷_}
 use Prim.Native.Nat.{ℕ, zero, suc, _+_, _*_, _/_, _%_}
 use lib.Dec.{leb, ltb, eqb}
 use Rattle.base.specs.Pick.{pick}
+use Rattle.code.specs.Reads as code
+pub use Rattle.code.specs.Reads.{bad, got, torn, all}
 use Rattle.base.specs.Cases.{Arm, cases, _⇒_}
 use Rattle.base.specs.declared.Width.{Width}
 use Rattle.base.specs.declared.Width.the-variants.{W32, W64}
 use Rattle.base.specs.declared.Size.{Size}
 use Rattle.base.specs.declared.Size.the-variants.{S8, S16, S32, S64}
-use Rattle.x86.specs.Instr.{Alu, ADD, OR, AND, SUB, XOR, CMP, MOV, TEST, Shift, SHL, SHR, SAR, Unary, NEG, MUL, DIV, JB, JAE, JE, JNE, JBE, JA, JL, JGE, JLE, JG, Plain, push, pop, alu, aluImm, shiftImm, shiftCl, unary, movabs, rol16, bswap, load, store, storeImm, Jump, jmp, call, jcc, Instr, op, jump, callReg, ret}
+use Rattle.x86.specs.Instr.{Alu, ADD, OR, AND, SUB, XOR, CMP, MOV, TEST, Shift, SHL, SHR, SAR, Unary, NEG, MUL, DIV, JB, JAE, JE, JNE, JBE, JA, JL, JGE}
+use Rattle.x86.specs.Instr.{JLE, JG, Plain, push, pop, alu, aluImm, shiftImm, shiftCl, unary, movabs, rol16, bswap, load, store, storeImm, Jump, jmp}
+use Rattle.x86.specs.Instr.{call, jcc, op, jump, callReg, ret}
 
 -- the instruction, and the bytes behind it
-pub data Read : Type 0 where
-  bad : Read
-  got : Instr ℕ → List ℕ → Read
+abbrev pub Read : Type 0
+Read = code.Read Plain Jump
 
 -- what reads on, from where the bytes read so far end
 abbrev pub Next : Type 0
@@ -253,3 +255,7 @@ opcode16 x o = only32 x (cases forms refuse o)
 unfoldable pub decode : List ℕ → Read
 decode [] = bad
 decode (b ∷ r) = pick (eqb b 0x66) (withRex opcode16 r) (withRex opcode (b ∷ r))
+
+-- code read end to end
+abbrev pub readAll : List ℕ → code.Reads Plain Jump
+readAll = code.readAll decode

@@ -1,19 +1,22 @@
 -- The bytes of each instruction: Intel 64 manual, volume 2. The prefix 66, then REX, then the opcode, ModRM, displacement, immediate
 -- (section 2.1); REX 0100WRXB (section 2.2.1), written where one of its bits is set, and always by a store of one byte; ModRM's
 -- mod, reg and r/m (section 2.1.5, table 2-2).
--- Assumes nothing.
 use mathlib.Core.Bool.{Bool, not, _&&_}
 use mathlib.Core.List.{List, [], _∷_, _++_}
 use Prim.Native.Nat.{ℕ, _+_, _*_, _/_, _%_, _^_}
 use lib.Dec.{ltb, eqb}
 use lib.ListN.{length}
 use Rattle.base.specs.Pick.{pick}
+use Rattle.code.specs.Instr.{Isa}
+use Rattle.code.specs.Code as code
 use Rattle.base.specs.Bytes.{le16, le32, le64}
 use Rattle.base.specs.declared.Width.{Width}
 use Rattle.base.specs.declared.Width.the-variants.{W32, W64}
 use Rattle.base.specs.declared.Size.{Size}
 use Rattle.base.specs.declared.Size.the-variants.{S8, S16, S32, S64}
-use Rattle.x86.specs.Instr.{Alu, ADD, OR, AND, SUB, XOR, CMP, MOV, TEST, Shift, SHL, SHR, SAR, Unary, NEG, MUL, DIV, Cond, JB, JAE, JE, JNE, JBE, JA, JL, JGE, JLE, JG, Plain, push, pop, alu, aluImm, shiftImm, shiftCl, unary, movabs, rol16, bswap, load, store, storeImm, Jump, jmp, call, jcc, Instr, op, jump, callReg, ret}
+use Rattle.x86.specs.Instr.{Alu, ADD, OR, AND, SUB, XOR, CMP, MOV, TEST, Shift, SHL, SHR, SAR, Unary, NEG, MUL, DIV, Cond, JB, JAE, JE, JNE, JBE, JA, JL}
+use Rattle.x86.specs.Instr.{JGE, JLE, JG, Plain, push, pop, alu, aluImm, shiftImm, shiftCl, unary, movabs, rol16, bswap, load, store, storeImm, Jump, jmp}
+use Rattle.x86.specs.Instr.{call, jcc, Instr}
 
 -- The opcode bytes, each under its page of the manual.
 
@@ -169,16 +172,21 @@ jumpOpcode jmp = 0xe9 ∷ []
 jumpOpcode call = 0xe8 ∷ []
 jumpOpcode (jcc c) = 0x0f ∷ (0x80 + condNumber c) ∷ []
 
--- CALL FF /2, RET C3
-abbrev pub encode : Instr ℕ → List ℕ
-encode (op p) = encodePlain p
-encode (jump j x) = jumpOpcode j ++ le32 x
-encode (callReg r) = rex 0 0 r ++ (0xff ∷ modrm 3 2 r ∷ [])
-encode ret = 0xc3 ∷ []
+-- CALL FF /2, RET C3. The word behind a jump's opcode is its distance.
+abbrev pub isa : Isa Plain Jump
+isa =
+    record {
+      plain = encodePlain;
+      head = jumpOpcode;
+      word = λ j distance. distance;
+      patch = λ old distance. distance;
+      through = λ r. rex 0 0 r ++ (0xff ∷ modrm 3 2 r ∷ []);
+      throughLen = λ r. length (rex 0 0 r) + 2;
+      back = 0xc3 ∷ [];
+    }
 
--- The length does not depend on what a jump carries.
+abbrev pub encode : Instr ℕ → List ℕ
+encode = code.encode isa
+
 abbrev pub len : {D : Type 0} → Instr D → ℕ
-len (op p) = length (encodePlain p)
-len (jump j x) = length (jumpOpcode j) + 4
-len (callReg r) = length (rex 0 0 r) + 2
-len ret = 1
+len {D} i = code.len isa {D = D} i

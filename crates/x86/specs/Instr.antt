@@ -1,8 +1,8 @@
 -- The x86-64 instructions that the translator writes, one constructor a form of Intel's manual (volume 2). A register is its machine
 -- number, 0 to 15; an immediate or a displacement is its two's complement in the width that it is written in.
--- Assumes nothing.
-use mathlib.Core.Logic.{_≢_}
-use Prim.Native.Nat.{ℕ, _%_, _<_, _^_}
+use Prim.Native.Nat.{ℕ}
+use Rattle.code.specs.Instr as shape
+pub use Rattle.code.specs.Instr.{op, jump, callReg, ret}
 use Rattle.base.specs.declared.Width.{Width}
 use Rattle.base.specs.declared.Size.{Size}
 use Rattle.base.specs.declared.Size.the-variants.{S8, S16, S32, S64}
@@ -47,42 +47,13 @@ pub data Jump : Type 0 where
   jmp call : Jump
   jcc : Cond → Jump
 
--- D is what a jump carries: the field in the machine, a destination in the definition
-pub data Instr (D : Type 0) : Type 0 where
-  op : Plain → Instr D
-  jump : Jump → D → Instr D
-  -- through a register
-  callReg : (r : ℕ) → Instr D
-  ret : Instr D
+-- the instructions: these, a call through a register, a return; D is what a jump carries
+abbrev pub Instr : Type 0 → Type 0
+Instr D = shape.Instr Plain Jump D
 
--- Which of them have an encoding: registers below 16, constants within their field, and no RSP or R12 as a base, which would take a SIB
--- byte (table 2-2).
+-- how many bits of its immediate a store writes; eight bytes get four, extended by their sign
 abbrev pub immBits : Size → ℕ
 immBits S8 = 8
 immBits S16 = 16
 immBits S32 = 32
 immBits S64 = 32
-
-abbrev pub Base : ℕ → Type 0
-Base b = (b < 16) × (b % 8 ≢ 4)
-
-abbrev pub WfPlain : Plain → Type 0
-WfPlain (push r) = r < 16
-WfPlain (pop r) = r < 16
-WfPlain (alu o w s d) = (s < 16) × (d < 16)
-WfPlain (aluImm o w d i) = (d < 16) × (i < 2 ^ 32)
-WfPlain (shiftImm o w d i) = (d < 16) × (i < 256)
-WfPlain (shiftCl o w d) = d < 16
-WfPlain (unary o w r) = r < 16
-WfPlain (movabs d i) = (d < 16) × (i < 2 ^ 64)
-WfPlain (rol16 d i) = (d < 16) × (i < 256)
-WfPlain (bswap w d) = d < 16
-WfPlain (load z b d x) = Base b × ((d < 16) × (x < 2 ^ 32))
-WfPlain (store z s b x) = (s < 16) × (Base b × (x < 2 ^ 32))
-WfPlain (storeImm z b x i) = Base b × ((x < 2 ^ 32) × (i < 2 ^ immBits z))
-
-abbrev pub Wf : Instr ℕ → Type 0
-Wf (op p) = WfPlain p
-Wf (jump j x) = x < 2 ^ 32
-Wf (callReg r) = r < 16
-Wf ret = Unit {0}

@@ -2,8 +2,6 @@ pub mod Registers
 pub mod Instr
 pub mod Encode
 pub mod Decode
-pub mod RoundTrip
-pub mod Lengths
 pub mod Code
+pub mod Lowered
 pub mod Fill
-pub mod Displacement

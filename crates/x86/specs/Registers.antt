@@ -1,5 +1,4 @@
 -- The machine numbers of the registers (Intel 64 manual, volume 2, table 3-1), under the Rust's names.
--- Assumes nothing.
 use Prim.Native.Nat.{ℕ}
 
 abbrev pub RAX : ℕ

@@ -1,11 +1,17 @@
 //! What is known of the Rust, fact by fact: what one would not expect of it
 //! (part C of docs/DIFFERENCES.md), and what a definition of it must reproduce.
 
-use super::{accepted, bytes, case_of, code_alone, opcodes, refused, slot_code, EPILOGUE, EXIT};
+use super::{accepted, bytes, case_of, code_alone, opcodes, refused, slot_code, EXIT};
 use crate::ebpf::{self, *};
 use crate::judge::Judge;
+use crate::sizes::{
+    ANCHOR, CODE_LONGEST, CODE_MAX, EPILOGUE, PROLOGUE, SLOTS_MAX, SLOT_LONGEST, TABLE_ENOUGH,
+};
 use crate::slots::{plain_case, slot, wide, LAST_REGISTER};
 use crate::stream::{Answer, Case};
+
+/// The exit, as the table of targets has it.
+const EXIT_TARGET: u32 = ANCHOR as u32;
 
 // ---- what one would not expect ---------------------------------------------
 
@@ -44,7 +50,7 @@ fn longest(judge: &mut Judge, opc: u8) -> usize {
 fn the_longest_slots() {
     let judge = &mut Judge::new();
     let known = [
-        (DIV64_REG, 42),
+        (DIV64_REG, SLOT_LONGEST),
         (DIV32_REG, 41),
         (MOD64_REG, 34),
         (MOD32_REG, 33),
@@ -78,14 +84,15 @@ fn the_longest_page_has_86081_bytes() {
     let case = Case {
         use_mbuff: true,
         update_data_ptr: true,
-        code_len: 131_072,
-        ..case_of(&vec![slot(DIV64_REG, 4, 5, 0, 0); 2_048])
+        code_len: CODE_MAX,
+        ..case_of(&[slot(DIV64_REG, 4, 5, 0, 0); SLOTS_MAX])
     };
     let page = accepted(&case);
-    assert_eq!((page.code.len(), page.fields.len()), (86_081, 2_049));
-    let short = Case { code_len: 86_080, ..case.clone() };
-    assert_eq!(refused(&short), (13, 2_048));
-    assert_eq!(accepted(&Case { code_len: 86_081, ..case }).code, page.code);
+    assert_eq!((page.code.len(), page.fields.len()), (CODE_LONGEST, TABLE_ENOUGH as usize));
+    assert_eq!(CODE_LONGEST, 86_081);
+    let short = Case { code_len: CODE_LONGEST as u32 - 1, ..case.clone() };
+    assert_eq!(refused(&short), (13, SLOTS_MAX as u32));
+    assert_eq!(accepted(&Case { code_len: CODE_LONGEST as u32, ..case }).code, page.code);
 }
 
 #[test]
@@ -107,7 +114,7 @@ fn modulo_by_zero_at_32_bits_clears_nothing() {
     let page = accepted(&case_of(&[slot(MOD32_REG, 1, 2, 0, 0), EXIT]));
     let start = bytes("48 c7 c1 00 00 00 00 85 f6 0f 84");
     assert_eq!(slot_code(&page, 0)[..11], start);
-    assert_eq!(page.targets, [1_000_001, 1]);
+    assert_eq!(page.targets, [EXIT_TARGET, 1]);
     assert!(code_alone(slot(MOD32_IMM, 1, 0, 0, 0)).is_empty());
 }
 
@@ -183,7 +190,7 @@ fn both_register_fields_count_on_every_first_slot() {
 fn division_in_the_last_slot_jumps_to_the_first_byte() {
     for opc in [DIV32_REG, DIV64_REG, MOD32_REG, MOD64_REG] {
         let page = accepted(&case_of(&[EXIT, slot(opc, 1, 2, 0, 0)]));
-        assert_eq!(page.targets, [1_000_001, 2]);
+        assert_eq!(page.targets, [EXIT_TARGET, 2]);
         assert_eq!(page.locations[2], 0);
         let field = page.fields[1] as usize;
         let want = (0u32).wrapping_sub(field as u32 + 4).to_le_bytes();
@@ -203,9 +210,9 @@ fn division_lists_its_jmp_and_modulo_its_je() {
         bytes("0f 85 08 00 00 00 45 31 c0 e9")
     );
     assert_eq!(code_alone(slot(MOD64_REG, 1, 2, 0, 0))[10..12], bytes("0f 84"));
-    for (opc, field) in [(DIV64_REG, 34 + 19), (MOD64_REG, 34 + 12)] {
+    for (opc, field) in [(DIV64_REG, PROLOGUE as u32 + 19), (MOD64_REG, PROLOGUE as u32 + 12)] {
         let page = accepted(&case_of(&[slot(opc, 1, 2, 0, 0), EXIT]));
-        assert_eq!((page.fields, page.targets), (vec![30, field], vec![1_000_001, 1]));
+        assert_eq!((page.fields, page.targets), (vec![30, field], vec![EXIT_TARGET, 1]));
     }
 }
 
@@ -213,7 +220,7 @@ fn division_lists_its_jmp_and_modulo_its_je() {
 fn dead_bytes_are_output() {
     for opc in [DIV32_REG, DIV64_REG, MOD32_REG, MOD64_REG] {
         let slots = vec![slot(opc, 0, 2, 0, 0); 300];
-        let page = accepted(&Case { code_len: 131_072, ..case_of(&slots) });
+        let page = accepted(&Case { code_len: CODE_MAX, ..case_of(&slots) });
         assert_eq!(slot_code(&page, 0)[..7], bytes("48 c7 c1 00 00 00 00"));
         assert_eq!(slot_code(&page, 258)[..7], bytes("48 c7 c1 02 01 00 00"));
         let moved = slot_code(&page, 0).windows(3).any(|three| three == [0x48, 0x89, 0xc0]);
@@ -268,14 +275,14 @@ fn helpers_by_32_bits_and_addresses_by_sign() {
 fn only_a_local_call_reaches_the_anchor() {
     for at in 0..5 {
         let mut slots = vec![EXIT; 5];
-        slots[at] = slot(CALL, 0, 1, 0, 1_000_000 - at as i32);
+        slots[at] = slot(CALL, 0, 1, 0, ANCHOR - 1 - at as i32);
         let page = accepted(&case_of(&slots));
-        assert_eq!(page.targets, [1_000_001, 1_000_001]);
+        assert_eq!(page.targets, [EXIT_TARGET; 2]);
         let exit = page.code.len() - EPILOGUE;
         let field = page.fields[1] as usize;
         assert_eq!(page.code[field..field + 4], ((exit - field - 4) as u32).to_le_bytes());
         for beside in [-1, 1] {
-            slots[at] = slot(CALL, 0, 1, 0, 1_000_000 - at as i32 + beside);
+            slots[at] = slot(CALL, 0, 1, 0, ANCHOR - 1 - at as i32 + beside);
             assert_eq!(refused(&case_of(&slots)), (14, at as u32));
         }
     }

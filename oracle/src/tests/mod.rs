@@ -8,11 +8,11 @@ mod streams;
 mod worked;
 
 use crate::judge::Judge;
+use crate::sizes::EPILOGUE;
 use crate::slots::{plain_case, Opcodes};
 use crate::stream::{Answer, Case, Translation};
 
 const EXIT: [u8; 8] = [crate::ebpf::EXIT, 0, 0, 0, 0, 0, 0, 0];
-const EPILOGUE: usize = 16;
 
 fn case_of(program: &[[u8; 8]]) -> Case {
     plain_case(&program.concat())

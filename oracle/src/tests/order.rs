@@ -4,6 +4,10 @@ use super::{accepted, case_of, refused, EXIT};
 use crate::ebpf::{self, BE, CALL, DIV64_REG, JA, LD_DW_IMM, MOV64_REG, TAIL_CALL};
 use crate::judge::Judge;
 use crate::limits;
+use crate::sizes::{
+    CODE_MAX, CODE_MIN, EPILOGUE, HELPERS_MAX, PROGRAM_MAX, PROLOGUE, SLOTS_MAX, SLOT_LONGEST,
+    TABLE_AMPLE, TABLE_ENOUGH,
+};
 use crate::slots::{plain_case, slot};
 use crate::stream::{Answer, Case};
 
@@ -34,7 +38,8 @@ fn frame_refusals_come_in_the_order_of_their_numbers() {
         let mut case = case_of(&[UNKNOWN]);
         let mut want = [9; 4];
         if causes & 1 != 0 {
-            case = Case { program: vec![0xff; 16_385], table_lens: [2_049; 3], ..case };
+            let program = vec![0xff; PROGRAM_MAX + 1];
+            case = Case { program, table_lens: [TABLE_ENOUGH; 3], ..case };
             want[0] = 3;
         }
         if causes & 2 != 0 {
@@ -48,28 +53,28 @@ fn frame_refusals_come_in_the_order_of_their_numbers() {
         let first = want.into_iter().min().expect("four entries");
         let first = if first == 9 { 8 } else { first };
         assert_eq!(refused(&case), (first, 0));
-        assert_eq!(refused(&Case { code_len: 4_095, ..case.clone() }), (1, 0));
-        assert_eq!(refused(&Case { code_len: 131_073, ..case }), (2, 0));
+        assert_eq!(refused(&Case { code_len: CODE_MIN - 1, ..case.clone() }), (1, 0));
+        assert_eq!(refused(&Case { code_len: CODE_MAX + 1, ..case }), (2, 0));
     }
 }
 
 #[test]
 fn frame_edges() {
     let case = case_of(&[EXIT]);
-    for (code_len, number) in [(0, 1), (4_095, 1), (131_073, 2), (u32::MAX, 2)] {
+    for (code_len, number) in [(0, 1), (CODE_MIN - 1, 1), (CODE_MAX + 1, 2), (u32::MAX, 2)] {
         assert_eq!(refused(&Case { code_len, ..case.clone() }), (number, 0));
     }
-    for code_len in [4_096, 4_097, 131_072] {
+    for code_len in [CODE_MIN, CODE_MIN + 1, CODE_MAX] {
         accepted(&Case { code_len, ..case.clone() });
     }
     let exits = |len: usize| Case {
-        code_len: 131_072,
-        table_lens: [4_096; 3],
-        ..plain_case(&EXIT.repeat(2_049)[..len])
+        code_len: CODE_MAX,
+        table_lens: [TABLE_AMPLE; 3],
+        ..plain_case(&EXIT.repeat(SLOTS_MAX + 1)[..len])
     };
-    assert_eq!(accepted(&exits(16_384)).locations.len(), 2_049);
-    assert_eq!(refused(&exits(16_385)), (3, 0));
-    assert_eq!(refused(&exits(16_383)), (6, 2_047));
+    assert_eq!(accepted(&exits(PROGRAM_MAX)).locations.len(), TABLE_ENOUGH as usize);
+    assert_eq!(refused(&exits(PROGRAM_MAX + 1)), (3, 0));
+    assert_eq!(refused(&exits(PROGRAM_MAX - 1)), (6, SLOTS_MAX as u32 - 1));
     for table in 0..3 {
         let mut short = case.clone();
         short.table_lens[table] = 1;
@@ -90,19 +95,21 @@ fn helper_lists() {
         helper_addresses: vec![0; addresses],
         ..case_of(&[EXIT])
     };
-    for good in [lists(vec![], 0), lists(vec![7], 1), lists((0..256).collect(), 256)] {
+    let all = HELPERS_MAX;
+    let first = |count: usize| (0..count as u32).collect::<Vec<u32>>();
+    for good in [lists(vec![], 0), lists(vec![7], 1), lists(first(all), all)] {
         accepted(&good);
     }
-    let mut twice: Vec<u32> = (0..256).collect();
-    twice[255] = 0;
+    let mut twice = first(all);
+    twice[all - 1] = 0;
     let bad = [
         lists(vec![], 1),
         lists(vec![7], 0),
         lists(vec![7, 7], 2),
         lists(vec![7, 1, 7], 3),
-        lists((0..257).collect(), 257),
-        lists((0..256).collect(), 257),
-        lists(twice, 256),
+        lists(first(all + 1), all + 1),
+        lists(first(all), all + 1),
+        lists(twice, all),
     ];
     for case in bad {
         assert_eq!(refused(&case), (5, 0));
@@ -149,11 +156,14 @@ fn the_first_bad_jump_decides() {
     assert_eq!(refused(&case_of(&[slot(DIV64_REG, 1, 2, 0, 0), BAD_JUMP])), (14, 1));
 }
 
+/// The smallest page.
+const PAGE: usize = CODE_MIN as usize;
+
 /// A program whose code, prologue and epilogue included, has `len` bytes.
 fn of_length(len: usize, last: &[[u8; 8]], last_len: usize) -> Case {
-    let room = len - 34 - 16 - last_len;
-    let mut slots = vec![slot(DIV64_REG, 4, 5, 0, 0); room / 42];
-    slots.extend(vec![EXIT; room % 42]);
+    let room = len - PROLOGUE - EPILOGUE - last_len;
+    let mut slots = vec![slot(DIV64_REG, 4, 5, 0, 0); room / SLOT_LONGEST];
+    slots.extend(vec![EXIT; room % SLOT_LONGEST]);
     slots.extend(last);
     case_of(&slots)
 }
@@ -161,13 +171,13 @@ fn of_length(len: usize, last: &[[u8; 8]], last_len: usize) -> Case {
 #[test]
 fn the_page_ends_at_every_byte() {
     let wide = [slot(LD_DW_IMM, 5, 0, 0, 1), slot(0, 0, 0, 0, 1)];
-    for (last, len) in [(&wide[..], 10), (&[slot(DIV64_REG, 4, 5, 0, 0)], 42)] {
-        for excess in 0..=16 + len {
-            let case = of_length(4_096 + excess, last, len);
+    for (last, len) in [(&wide[..], 10), (&[slot(DIV64_REG, 4, 5, 0, 0)], SLOT_LONGEST)] {
+        for excess in 0..=EPILOGUE + len {
+            let case = of_length(PAGE + excess, last, len);
             let n = case.slots();
             match excess {
-                0 => assert_eq!(accepted(&case).code.len(), 4_096),
-                1..=16 => assert_eq!(refused(&case), (13, n as u32)),
+                0 => assert_eq!(accepted(&case).code.len(), PAGE),
+                1..=EPILOGUE => assert_eq!(refused(&case), (13, n as u32)),
                 _ => assert_eq!(refused(&case), (13, (n - last.len()) as u32)),
             }
         }
@@ -177,7 +187,7 @@ fn the_page_ends_at_every_byte() {
 #[test]
 fn what_a_full_page_comes_before_and_after() {
     // The last slot's code does not fit: 8 to 12 and 6 in that slot are ahead.
-    let full = |last: [u8; 8]| of_length(4_096 + 16, &[last], 0);
+    let full = |last: [u8; 8]| of_length(PAGE + EPILOGUE, &[last], 0);
     let n = full(EXIT).slots() as u32;
     assert_eq!(refused(&full(EXIT)), (13, n - 1));
     for (bad, number) in BAD {
@@ -186,13 +196,13 @@ fn what_a_full_page_comes_before_and_after() {
     assert_eq!(refused(&full(WIDE)), (6, n - 1));
     // 13 for a slot is ahead of a bad slot behind it, and of a bad jump.
     for behind in [UNKNOWN, BAD_JUMP, BAD_REGISTER] {
-        let case = of_length(4_096 + 16 + 1, &[EXIT, behind], 1);
+        let case = of_length(PAGE + EPILOGUE + 1, &[EXIT, behind], 1);
         assert_eq!(refused(&case), (13, case.slots() as u32 - 2));
     }
-    let ahead = of_length(4_096 + 16 + 1, &[BAD_JUMP, EXIT], 6);
+    let ahead = of_length(PAGE + EPILOGUE + 1, &[BAD_JUMP, EXIT], 6);
     assert_eq!(refused(&ahead), (13, ahead.slots() as u32 - 1));
     // 13 for the epilogue is ahead of 14, and behind 6 for trailing bytes.
-    let jump = of_length(4_097, &[slot(JA, 0, 0, 9, 0)], 5);
+    let jump = of_length(PAGE + 1, &[slot(JA, 0, 0, 9, 0)], 5);
     assert_eq!(refused(&jump), (13, jump.slots() as u32));
     let mut stub = jump.clone();
     stub.program.push(ebpf::EXIT);
@@ -214,14 +224,15 @@ fn the_list_has_both_sides_of_each_limit() {
     {
         assert!(counts[number] >= least, "refusal {number}: {counts:?}");
     }
-    // 256 helpers, the last of them called; a page too long ahead of a program
-    // too long.
-    let many = |case: &Case| case.helper_ids.len() == 256 && case.helper_addresses.len() == 256;
-    let last = |case: &Case| case.program[4..8] == case.helper_ids[255].to_le_bytes();
+    // As many helpers as there may be, the last of them called; a page too long
+    // ahead of a program too long.
+    let lens = |case: &Case| (case.helper_ids.len(), case.helper_addresses.len());
+    let many = |case: &Case| lens(case) == (HELPERS_MAX, HELPERS_MAX);
+    let last = |case: &Case| case.program[4..8] == case.helper_ids[HELPERS_MAX - 1].to_le_bytes();
     let called = limits::cases().into_iter().filter(|case| many(case) && last(case));
     let good = called.filter(|case| matches!(judge.answer(case), Ok(Answer::Accepted(_))));
     assert!(good.count() > 1);
-    let both = |case: &Case| case.code_len > 131_072 && case.program.len() > 16_384;
+    let both = |case: &Case| case.code_len > CODE_MAX && case.program.len() > PROGRAM_MAX;
     let both: Vec<Case> = limits::cases().into_iter().filter(both).collect();
     assert!(both.len() > 1 && both.iter().all(|case| refused(case) == (2, 0)));
 }

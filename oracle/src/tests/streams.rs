@@ -1,7 +1,9 @@
 //! The streams: what is written is read back, and what is malformed is said.
 
 use super::{ask, case_of, EXIT};
-use crate::stream::{answer_records, case_records, write_answer, write_case, Case};
+use crate::stream::{
+    answer_records, case_records, write_answer, write_case, Case, HELPER_LIMIT, PROGRAM_LIMIT,
+};
 
 fn sample() -> Case {
     Case {
@@ -93,16 +95,16 @@ fn parts_that_do_not_fill_the_length_are_malformed() {
 #[test]
 fn a_case_beyond_the_limits_is_malformed() {
     let edge = Case {
-        helper_ids: vec![0; 512],
-        helper_addresses: vec![0; 512],
-        program: vec![0; 32_768],
+        helper_ids: vec![0; HELPER_LIMIT],
+        helper_addresses: vec![0; HELPER_LIMIT],
+        program: vec![0; PROGRAM_LIMIT],
         ..sample()
     };
     assert_eq!(case_records(&written(&edge)[..]).next_case(), Ok(Some(edge)));
     let beyond = [
-        Case { helper_ids: vec![0; 513], ..sample() },
-        Case { helper_addresses: vec![0; 513], ..sample() },
-        Case { program: vec![0; 32_769], ..sample() },
+        Case { helper_ids: vec![0; HELPER_LIMIT + 1], ..sample() },
+        Case { helper_addresses: vec![0; HELPER_LIMIT + 1], ..sample() },
+        Case { program: vec![0; PROGRAM_LIMIT + 1], ..sample() },
     ];
     for case in beyond {
         assert!(complaint(&written(&case), 0).starts_with("case 0 is malformed: "));

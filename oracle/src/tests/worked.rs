@@ -1,7 +1,8 @@
 //! The worked programs, and the bytes that each has to give.
 
-use super::{accepted, ask, bytes, case_of, slot_code, EPILOGUE};
+use super::{accepted, ask, bytes, case_of, slot_code};
 use crate::corpus;
+use crate::sizes::{ANCHOR, EPILOGUE, PROLOGUE, PROLOGUE_LONGEST};
 use crate::stream::{Answer, Case, Translation};
 
 const EXIT_PAGE: &str = "55 53 41 55 41 56 41 57 49 89 d2 48 89 d7 48 89 e5 48 81 ec 00 02 00 00 \
@@ -40,11 +41,11 @@ const LINES: [(&str, Line); 19] = [
     ("JA -1", Jump(0, "fb ff ff ff")),
     ("JA 0 alone", Jump(1, "d9 ff ff ff")),
     ("JA 1 alone", Refused(14, 0)),
-    ("local call 1000000", Jump(1_000_001, "07 00 00 00")),
-    ("local call 999999", Refused(14, 0)),
+    ("local call of the exit", Jump(ANCHOR as u32, "07 00 00 00")),
+    ("local call a slot ahead of the exit", Refused(14, 0)),
     ("7 bytes", Refused(6, 0)),
-    ("16384 bytes", NotRefused(3)),
-    ("16385 bytes", Refused(3, 0)),
+    ("the longest program", NotRefused(3)),
+    ("a byte more than the longest program", Refused(3, 0)),
 ];
 
 fn field(page: &Translation, jump: usize) -> &[u8] {
@@ -96,16 +97,16 @@ fn the_four_pairs_of_flags() {
     let stack = "48 89 e5 48 81 ec 00 02 00 00 e8 05 00 00 00 e9 00 00 00 00";
     let epilogue = "48 81 c4 00 02 00 00 41 5f 41 5e 41 5d 5b 5d c3";
     let pairs = [
-        (false, false, "48 89 d7", 34),
-        (false, true, "48 89 d7", 34),
+        (false, false, "48 89 d7", PROLOGUE),
+        (false, true, "48 89 d7", PROLOGUE),
         (true, false, "", 31),
-        (true, true, update, 49),
+        (true, true, update, PROLOGUE_LONGEST),
     ];
     for (use_mbuff, update_data_ptr, middle, len) in pairs {
         let case = Case { use_mbuff, update_data_ptr, ..case_of(&[]) };
         let page = accepted(&case);
         let code = [pushes, middle, stack, epilogue].map(bytes).concat();
         assert_eq!((&page.code, page.code.len()), (&code, len + EPILOGUE));
-        assert_eq!((page.fields, page.targets), (vec![len as u32 - 4], vec![1_000_001]));
+        assert_eq!((page.fields, page.targets), (vec![len as u32 - 4], vec![ANCHOR as u32]));
     }
 }

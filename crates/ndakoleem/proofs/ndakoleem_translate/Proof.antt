@@ -1,10 +1,9 @@
 -- `ndakoleem_translate` meets its contract: of either case of the answer the struct holds its four numbers,
 -- and what Rattle knows of every slice is all that demand 3 is given.
--- Assumes nothing.
 use mathlib.Core.Path.{refl}
 use native.Mathlib.Omega.{arith}
 use borrow.Author.Needs.{needs}
-use Rattle.ndakoleem.specs.Exported.{exported}
+use Rattle.ndakoleem.proofs.ExportedLaws.{exported}
 use Rattle.ndakoleem.proofs.ndakoleem_translate.Statement.{statement}
 use Rattle.ndakoleem.proofs.ndakoleem_translate.Tie as tie
 
@@ -42,7 +41,8 @@ returns c =
     let lent = done .before .before .before .before .before .before .before .before .before in
     let bytes = lent .before .before .shared-slice-known .given in
     let addresses = lent .shared-slice-known3 .given in
-    exported _ (record { bytes = λ k. omega (arith, bytes k); addresses = λ k. omega (arith, addresses k) }) (done .translate .ensures) (rw told (c .before .number-of .ensures)) (rw told (c .slot-of .ensures)) (rw told refl) (rw told refl)
+    exported _ (record { bytes = λ k. omega (arith, bytes k); addresses = λ k. omega (arith, addresses k) })
+    (done .translate .ensures) (rw told (c .before .number-of .ensures)) (rw told (c .slot-of .ensures)) (rw told refl) (rw told refl)
 
 same-length-5 : tie.Need-same-length-5
 same-length-5 c = search needs
@@ -63,7 +63,8 @@ returns-2 c =
     let lent = done .before .before .before .before .before .before .before .before .before in
     let bytes = lent .before .before .shared-slice-known .given in
     let addresses = lent .shared-slice-known3 .given in
-    exported _ (record { bytes = λ k. omega (arith, bytes k); addresses = λ k. omega (arith, addresses k) }) (done .translate .ensures) (rw told refl) (rw told refl) (rw told refl) (rw told refl)
+    exported _ (record { bytes = λ k. omega (arith, bytes k); addresses = λ k. omega (arith, addresses k) })
+    (done .translate .ensures) (rw told refl) (rw told refl) (rw told refl) (rw told refl)
 
 pub ndakoleem-translate-spec : {M : Type 1} → statement M
 ndakoleem-translate-spec =

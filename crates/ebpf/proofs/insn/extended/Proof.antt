@@ -1,4 +1,4 @@
-use Rattle.ebpf.specs.Insn.{extended}
+use Rattle.ebpf.proofs.InsnLaws.{extended}
 use borrow.Author.Needs.{needs}
 use Rattle.ebpf.proofs.insn.extended.Statement.{statement}
 use Rattle.ebpf.proofs.insn.extended.Tie as tie

@@ -1,4 +1,4 @@
-use Rattle.ebpf.specs.Kinds.{entry}
+use Rattle.ebpf.proofs.KindsLaws.{entry}
 use mathlib.Core.Path.{_∙_}
 use borrow.Author.Needs.{needs}
 use Rattle.ebpf.proofs.kind.kind_in.Statement.{statement}

@@ -1,4 +1,4 @@
-use Rattle.base.specs.Cases.{rest}
+use Rattle.base.proofs.CasesLaws.{rest}
 use Rattle.ebpf.specs.Kinds.{kinds}
 use borrow.Author.Needs.{needs}
 use Rattle.ebpf.proofs.kind.kind_numbered.Statement.{statement}

@@ -1,7 +1,7 @@
 use borrow.Author.Needs.{needs}
-use Rattle.ebpf.specs.Masks.{times, by-size}
+use Rattle.ebpf.proofs.Masks.{times, by-size}
 use Rattle.ebpf.specs.Opcode.{sizes}
-use Rattle.base.specs.Cases.{rest}
+use Rattle.base.proofs.CasesLaws.{rest}
 use Rattle.ebpf.proofs.kind.size_of.Statement.{statement}
 use Rattle.ebpf.proofs.kind.size_of.Tie as tie
 

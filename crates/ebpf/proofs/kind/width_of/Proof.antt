@@ -1,7 +1,7 @@
 use borrow.Author.Needs.{needs}
-use Rattle.ebpf.specs.Masks.{times, by-class}
+use Rattle.ebpf.proofs.Masks.{times, by-class}
 use Rattle.ebpf.specs.Kinds.{widths}
-use Rattle.base.specs.Cases.{rest}
+use Rattle.base.proofs.CasesLaws.{rest}
 use Rattle.ebpf.proofs.kind.width_of.Statement.{statement}
 use Rattle.ebpf.proofs.kind.width_of.Tie as tie
 

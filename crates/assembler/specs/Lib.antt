@@ -1,2 +1,0 @@
-pub mod Assembler
-pub mod Useless

@@ -1,0 +1,4 @@
+pub mod Useless
+pub mod StoredLaws
+pub mod AnswersLaws
+pub mod CasesLaws

@@ -1,0 +1,5 @@
+pub mod Limits
+pub mod Stored
+pub mod Answers
+pub mod Cases
+pub mod Lent

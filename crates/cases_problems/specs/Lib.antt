@@ -1,0 +1,2 @@
+pub mod Problems
+pub mod Lent

@@ -1,0 +1,109 @@
+use lib.Seq.{length-take-le}
+use borrow.Author.Needs.{needs}
+use Rattle.cases_run.proofs.run.run_case.Statement.{statement}
+use Rattle.cases_run.proofs.run.run_case.Tie as tie
+
+least-requires : tie.Need-least-requires
+least-requires c κs = search needs
+
+least-requires-2 : tie.Need-least-requires-2
+least-requires-2 c κs = search needs
+
+least-requires-3 : tie.Need-least-requires-3
+least-requires-3 c κs = search needs
+
+least-requires-4 : tie.Need-least-requires-4
+least-requires-4 c κs = search needs
+
+sub-run-lent : tie.Need-sub-run-lent
+sub-run-lent c = search needs
+
+part-run-lent-start : tie.Need-part-run-lent-start
+part-run-lent-start c = search needs
+
+part-run-lent-end : tie.Need-part-run-lent-end
+part-run-lent-end c = search needs
+
+slice-aggregate-run-lent : tie.Need-slice-aggregate-run-lent
+slice-aggregate-run-lent c =
+    let asked = c .before .before .before .before .before .before .before .before .before .before .before .before .before .before in
+    simp (length-take-le, asked .pre .0)
+
+slice-aggregate-run-lent-2 : tie.Need-slice-aggregate-run-lent-2
+slice-aggregate-run-lent-2 c =
+    let asked = c .before .before .before .before .before .before .before .before .before .before .before .before .before .before .before in
+    simp (length-take-le, asked .pre .1 .0)
+
+slice-relend-prefix-run-lent : tie.Need-slice-relend-prefix-run-lent
+slice-relend-prefix-run-lent c = search needs
+
+slice-aggregate-run-lent-3 : tie.Need-slice-aggregate-run-lent-3
+slice-aggregate-run-lent-3 c = simp (length-take-le, c .before .before .before .before .before .before .before .least .ensures .1)
+
+slice-relend-prefix-run-lent-2 : tie.Need-slice-relend-prefix-run-lent-2
+slice-relend-prefix-run-lent-2 c = search needs
+
+slice-aggregate-run-lent-4 : tie.Need-slice-aggregate-run-lent-4
+slice-aggregate-run-lent-4 c = simp (length-take-le, c .before .before .before .before .before .before .before .least2 .ensures .1)
+
+slice-relend-prefix-run-lent-3 : tie.Need-slice-relend-prefix-run-lent-3
+slice-relend-prefix-run-lent-3 c = search needs
+
+slice-aggregate-run-lent-5 : tie.Need-slice-aggregate-run-lent-5
+slice-aggregate-run-lent-5 c = simp (length-take-le, c .before .before .before .before .before .before .before .least3 .ensures .1)
+
+slice-relend-prefix-run-lent-4 : tie.Need-slice-relend-prefix-run-lent-4
+slice-relend-prefix-run-lent-4 c = search needs
+
+slice-aggregate-run-lent-6 : tie.Need-slice-aggregate-run-lent-6
+slice-aggregate-run-lent-6 c = simp (length-take-le, c .before .before .before .before .before .before .before .least4 .ensures .1)
+
+run-lent-requires : tie.Need-run-lent-requires
+run-lent-requires c κs = search needs
+
+same-length : tie.Need-same-length
+same-length c = search needs
+
+same-length-2 : tie.Need-same-length-2
+same-length-2 c = search needs
+
+same-length-3 : tie.Need-same-length-3
+same-length-3 c = search needs
+
+same-length-4 : tie.Need-same-length-4
+same-length-4 c = search needs
+
+same-length-5 : tie.Need-same-length-5
+same-length-5 c = search needs
+
+returns : tie.Need-returns
+returns c = search needs
+
+pub run-case-spec : {M : Type 1} → statement M
+run-case-spec =
+    tie.close
+    (tie.spec
+    least-requires
+    least-requires-2
+    least-requires-3
+    least-requires-4
+    sub-run-lent
+    part-run-lent-start
+    part-run-lent-end
+    slice-aggregate-run-lent
+    slice-aggregate-run-lent-2
+    slice-relend-prefix-run-lent
+    slice-aggregate-run-lent-3
+    slice-relend-prefix-run-lent-2
+    slice-aggregate-run-lent-4
+    slice-relend-prefix-run-lent-3
+    slice-aggregate-run-lent-5
+    slice-relend-prefix-run-lent-4
+    slice-aggregate-run-lent-6
+    run-lent-requires
+    same-length
+    same-length-2
+    same-length-3
+    same-length-4
+    same-length-5
+    returns)

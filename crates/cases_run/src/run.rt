@@ -1,0 +1,310 @@
+// A case, run: what it asks for is lent, the answer is put together, and what was lent is looked over and marked again.
+ghost use mathlib.Core.Path.{_≡_};
+ghost use Prim.Native.Nat.{_≤_};
+ghost use lib.ListN.{length};
+ghost use Rattle.cases_bytes.specs.Lent.{Inside};
+use crate::marks;
+use cases_bytes::answer;
+use cases_bytes::limits;
+use cases_bytes::parts;
+use cases_bytes::parts::Case;
+use cases_bytes::stream;
+use cases_bytes::stream::Window;
+use cases_problems::Problem;
+use jit::Flags;
+use jit::Refusal;
+use jit_translate::translate::Answer;
+use jit_translate::translate::translate;
+
+// How many bytes the answer is; 0 where there is a problem.
+pub struct Reply {
+    pub problem: Problem,
+    pub size: usize,
+}
+
+fn no_reply(problem: Problem) -> Reply
+    ensures { λ r. ⌜ r .size ≡ 0 ⌝ }
+{
+    Reply { problem, size: 0 }
+}
+
+fn reply_of(size: usize) -> Reply
+    ensures { λ r. ⌜ r .size ≡ size ⌝ }
+{
+    if size == 0 {
+        return no_reply(Problem::NoRoom);
+    }
+    Reply {
+        problem: Problem::Nothing,
+        size,
+    }
+}
+
+fn least(a: usize, b: usize) -> usize
+    ensures { λ r. ⌜ (r ≤ a) × (r ≤ b) ⌝ }
+{
+    if a < b { a } else { b }
+}
+
+// What has changed behind the first `end` bytes, `ends` locations and `jumps` jumps.
+fn changed(
+    code: &[u8],
+    end: usize,
+    locations: &[u32],
+    ends: usize,
+    fields: &[u32],
+    targets: &[u32],
+    jumps: usize,
+) -> Problem {
+    if !marks::page_kept(code, end) {
+        return Problem::PageChanged;
+    }
+    if !marks::table_kept(locations, ends) {
+        return Problem::LocationsChanged;
+    }
+    if !marks::table_kept(fields, jumps) {
+        return Problem::FieldsChanged;
+    }
+    if !marks::table_kept(targets, jumps) {
+        return Problem::TargetsChanged;
+    }
+    Problem::Nothing
+}
+
+fn refused(
+    refusal: Refusal,
+    code: &[u8],
+    locations: &[u32],
+    fields: &[u32],
+    targets: &[u32],
+    out: &mut [u8],
+) -> Reply
+    ensures { λ r. ⌜ r .size ≤ length (now (out .exit)) ⌝ }
+{
+    let wrong = changed(code, 0, locations, 0, fields, targets, 0);
+    if !cases_problems::is_nothing(wrong) {
+        return no_reply(wrong);
+    }
+    reply_of(answer::put_refused(out, refusal))
+}
+
+fn accepted(
+    code: &mut [u8],
+    end: usize,
+    locations: &mut [u32],
+    ends: usize,
+    fields: &mut [u32],
+    targets: &mut [u32],
+    jumps: usize,
+    out: &mut [u8],
+) -> Reply
+    ensures { λ r. ⌜ r .size ≤ length (now (out .exit)) ⌝ }
+{
+    if code.len() < end {
+        return no_reply(Problem::WrongLengths);
+    }
+    if locations.len() < ends {
+        return no_reply(Problem::WrongLengths);
+    }
+    if fields.len() < jumps {
+        return no_reply(Problem::WrongLengths);
+    }
+    if targets.len() < jumps {
+        return no_reply(Problem::WrongLengths);
+    }
+    let wrong = changed(code, end, locations, ends, fields, targets, jumps);
+    if !cases_problems::is_nothing(wrong) {
+        return no_reply(wrong);
+    }
+    let size = answer::put_accepted(
+        out,
+        &code[..end],
+        &locations[..ends],
+        &fields[..jumps],
+        &targets[..jumps],
+    );
+    marks::mark_page(&mut code[..end]);
+    marks::mark_table(&mut locations[..ends]);
+    marks::mark_table(&mut fields[..jumps]);
+    marks::mark_table(&mut targets[..jumps]);
+    reply_of(size)
+}
+
+// What is lent here is lent whole. It is marked before, and marked again afterwards where there is no problem.
+fn run_lent(
+    program: &[u8],
+    flags: Flags,
+    ids: &[u32],
+    addresses: &[u64],
+    code: &mut [u8],
+    locations: &mut [u32],
+    fields: &mut [u32],
+    targets: &mut [u32],
+    out: &mut [u8],
+) -> Reply
+    ensures { λ r. ⌜ r .size ≤ length (now (out .exit)) ⌝ }
+{
+    match translate(
+        program,
+        flags,
+        ids,
+        addresses,
+        code,
+        locations,
+        fields,
+        targets,
+    ) {
+        Answer::Refused(refusal) => refused(refusal, code, locations, fields, targets, out),
+        Answer::Accepted { length, jumps } => accepted(
+            code,
+            length,
+            locations,
+            program.len() / 8 + 1,
+            fields,
+            targets,
+            jumps,
+            out,
+        ),
+    }
+}
+
+// Of a longer page or table than there is the whole is lent, which the translator cannot tell.
+fn run_case(
+    body: &[u8],
+    case: Case,
+    ids: &[u32],
+    addresses: &[u64],
+    code: &mut [u8],
+    locations: &mut [u32],
+    fields: &mut [u32],
+    targets: &mut [u32],
+    out: &mut [u8],
+) -> Reply
+    requires { ⌜ Inside body ids addresses case ⌝ }
+    ensures { λ r. ⌜ r .size ≤ length (now (out .exit)) ⌝ }
+{
+    let flags = Flags {
+        use_mbuff: case.use_mbuff,
+        update_data_ptr: case.update_data_ptr,
+    };
+    let program = case.program;
+    let i = case.ids;
+    let a = case.addresses;
+    let c = least(case.code, code.len());
+    let l = least(case.locations, locations.len());
+    let f = least(case.fields, fields.len());
+    let t = least(case.targets, targets.len());
+    run_lent(
+        &body[program..],
+        flags,
+        &ids[..i],
+        &addresses[..a],
+        &mut code[..c],
+        &mut locations[..l],
+        &mut fields[..f],
+        &mut targets[..t],
+        out,
+    )
+}
+
+// The case in a record's body, taken apart and run.
+fn run_body(
+    body: &[u8],
+    ids: &mut [u32],
+    addresses: &mut [u64],
+    code: &mut [u8],
+    locations: &mut [u32],
+    fields: &mut [u32],
+    targets: &mut [u32],
+    out: &mut [u8],
+) -> Reply
+    ensures { λ r. ⌜ r .size ≤ length (now (out .exit)) ⌝ }
+{
+    let case = parts::take_apart(body, ids, addresses);
+    let malformed = case.problem;
+    if !cases_problems::is_nothing(malformed) {
+        return no_reply(malformed);
+    }
+    run_case(
+        body,
+        case,
+        ids,
+        addresses,
+        code,
+        locations,
+        fields,
+        targets,
+        out,
+    )
+}
+
+// A stream's next case, read and run: the window behind it and how many bytes its answer is.
+pub struct Done {
+    pub problem: Problem,
+    pub start: usize,
+    pub end: usize,
+    pub size: usize,
+}
+
+fn not_done(problem: Problem) -> Done
+    ensures { λ r. ⌜ (r .start ≡ 0) × ((r .end ≡ 0) × (r .size ≡ 0)) ⌝ }
+{
+    Done {
+        problem,
+        start: 0,
+        end: 0,
+        size: 0,
+    }
+}
+
+// The answer is put at the start of `out`. After a problem the stream is not to be gone on with.
+pub fn run_next(
+    fd: i32,
+    input: &mut [u8],
+    start: usize,
+    end: usize,
+    ids: &mut [u32],
+    addresses: &mut [u64],
+    code: &mut [u8],
+    locations: &mut [u32],
+    fields: &mut [u32],
+    targets: &mut [u32],
+    out: &mut [u8],
+) -> Done
+    requires { ⌜ (start ≤ end) × (end ≤ length (now input)) ⌝ }
+    ensures { λ r. ⌜ (r .start ≤ r .end) × ((r .end ≤ length (now (input .exit))) × (r .size ≤ length (now (out .exit)))) ⌝ }
+{
+    let record = stream::next_record(
+        fd,
+        input,
+        Window {
+            start,
+            end,
+            failed: false,
+        },
+        limits::CASE,
+    );
+    let unread = record.problem;
+    if !cases_problems::is_nothing(unread) {
+        return not_done(unread);
+    }
+    let at = record.at;
+    let behind = at + record.length;
+    let reply = run_body(
+        &input[at..behind],
+        ids,
+        addresses,
+        code,
+        locations,
+        fields,
+        targets,
+        out,
+    );
+    let wrong = reply.problem;
+    Done {
+        problem: wrong,
+        start: behind,
+        end: record.end,
+        size: reply.size,
+    }
+}

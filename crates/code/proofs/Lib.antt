@@ -1,0 +1,7 @@
+pub mod Lawful
+pub mod CodeLaws
+pub mod FillLaws
+pub mod Placed
+pub mod ReadsLaws
+pub mod PageLaws
+pub mod LandingLaws

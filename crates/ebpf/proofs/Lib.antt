@@ -1,0 +1,4 @@
+pub mod Masks
+pub mod InsnLaws
+pub mod NamedLaws
+pub mod KindsLaws

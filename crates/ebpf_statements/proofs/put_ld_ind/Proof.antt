@@ -1,0 +1,45 @@
+use Rattle.text.proofs.SaysLaws.{same}
+use Rattle.ebpf_statements.specs.Statements.{indText}
+use borrow.Author.Needs.{needs}
+use Rattle.ebpf_statements.proofs.put_ld_ind.Statement.{statement}
+use Rattle.ebpf_statements.proofs.put_ld_ind.Tie as tie
+
+size-bits-requires : tie.Need-size-bits-requires
+size-bits-requires c κs = search needs
+
+slice-aggregate-put-form : tie.Need-slice-aggregate-put-form
+slice-aggregate-put-form c = search needs
+
+cast-t12 : tie.Need-cast-t12
+cast-t12 c = search needs
+
+extended-requires : tie.Need-extended-requires
+extended-requires c κs = search needs
+
+slice-aggregate-put-form-2 : tie.Need-slice-aggregate-put-form-2
+slice-aggregate-put-form-2 c = search needs
+
+put-form-requires : tie.Need-put-form-requires
+put-form-requires c κs = search needs
+
+same-length : tie.Need-same-length
+same-length c = search needs
+
+returns : tie.Need-returns
+unfolding indText
+returns c =
+    same (c .before .before .put-form .ensures)
+    (let wide = c .before .before .before .before in rw (wide .before .before .before .before .size-bits .ensures, wide .extended .ensures))
+
+pub put-ld-ind-spec : {M : Type 1} → statement M
+put-ld-ind-spec =
+    tie.close
+    (tie.spec
+    size-bits-requires
+    slice-aggregate-put-form
+    cast-t12
+    extended-requires
+    slice-aggregate-put-form-2
+    put-form-requires
+    same-length
+    returns)

@@ -1,2 +1,0 @@
-pub mod Intel
-pub mod Useless

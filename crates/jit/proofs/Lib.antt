@@ -1,0 +1,7 @@
+pub mod Constants
+pub mod SlotSize
+pub mod Bounds
+pub mod Counted
+pub mod Worked
+pub mod FrameLaws
+pub mod NoTargets

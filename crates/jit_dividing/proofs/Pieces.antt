@@ -1,0 +1,53 @@
+-- An operation on registers in its pieces: the divisor's guard, what is saved, the second operand, and the rest.
+use mathlib.Core.Path.{_≡_, _∙_, ap}
+use mathlib.Core.List.{List, [], _∷_}
+use Prim.Native.Nat.{ℕ, _+_}
+use native.Mathlib.Omega.{arith}
+use lib.ListN.{length}
+use Rattle.base.proofs.Lists.{empty}
+use Rattle.base.specs.declared.Width.{Width}
+use Rattle.base.specs.declared.Width.the-variants.{W64}
+use Rattle.ebpf.specs.declared.kind.MulOp.{MulOp}
+use Rattle.x86.specs.Registers.{RCX}
+use Rattle.x86.specs.Instr.{op, alu, MOV}
+use Rattle.x86.specs.Encode.{encodePlain}
+use Rattle.x86.specs.Code.{size, targetsOf}
+use Rattle.x86.specs.Fill.{blanks}
+use Rattle.x86.proofs.CodeLaws.{size-append, blanks-append, length-blanks}
+use Rattle.x86_emit.specs.Wrote.{Wrote}
+use Rattle.x86_emit.proofs.WroteLaws.{then}
+use Rattle.jit.specs.MulDivMod.{Code, guard, saves, operated, computed, mulDivModReg}
+use Rattle.jit.proofs.SlotSize.{computed-none}
+use Rattle.jit_recording.specs.Emits.{Emits}
+use Rattle.jit_recording.proofs.EmitsLaws.{plainly, emits-then}
+
+module _ (o : MulOp) (slot : ℕ) (w : Width) (src dst : ℕ) where
+  -- the guard, and what follows it
+  abbrev guarded : Code
+  guarded = guard o slot w src dst
+
+  abbrev unguarded : Code
+  unguarded = computed o w (op (alu MOV W64 src RCX) ∷ []) dst
+
+  -- what follows the saves
+  abbrev moved : Code
+  moved = op (alu MOV W64 src RCX) ∷ operated o w dst
+
+  -- the pieces' sizes
+  pub sizes : (size (mulDivModReg o slot w src dst) ≡ size guarded + (size (saves dst) + size moved))
+      × ((length (blanks guarded) ≡ size guarded) × (length (blanks (saves dst)) ≡ size (saves dst)))
+  sizes = (
+    size-append guarded unguarded ∙ ap (λ (k : ℕ). size guarded + k) (size-append (saves dst) moved),
+    (length-blanks guarded, length-blanks (saves dst)),
+  )
+
+  -- what the pieces emit, one behind another
+  pub pieces : {c c₁ c₂ c₃ c₄ f f′ t t′ : List ℕ} {at j at₁ j′ at₂ at₃ at₄ : ℕ}
+      → Emits c c₁ f f′ t t′ at j at₁ j′ guarded
+      → Wrote c₁ c₂ at₁ at₂ (blanks (saves dst))
+      → Wrote c₂ c₃ at₂ at₃ (encodePlain (alu MOV W64 src RCX))
+      → Wrote c₃ c₄ at₃ at₄ (blanks (operated o w dst))
+      → Emits c c₄ f f′ t t′ at j at₄ j′ (mulDivModReg o slot w src dst)
+  pieces g s m r =
+      let none = empty (targetsOf unguarded) (computed-none o w (op (alu MOV W64 src RCX) ∷ []) dst (omega arith)) in
+      emits-then guarded unguarded g (plainly unguarded none (rw (blanks-append (saves dst) moved) (then s (then m r))))

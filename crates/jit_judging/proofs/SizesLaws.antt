@@ -1,0 +1,150 @@
+-- Refusals 1 to 5: the search for an id that is listed twice, the tests one by one, and that the definition begins with them.
+use mathlib.Core.Path.{_≡_, _∙_, refl, ap, sym}
+use mathlib.Core.Bool.{Bool, true, false, not, _||_}
+use mathlib.Core.List.{List}
+use Prim.Native.Nat.{ℕ, suc, _+_, _/_, _<_, _≤_}
+use native.Mathlib.Numerals.{add-one}
+use lib.Dec.{leb, ltb, eqb}
+use lib.ListN.{length, getD, drop, drop-of-length-le}
+use lib.Seq.{drop-cons}
+use borrow.Author.Tests.{lt-ltb, le-ltb, le-leb, lt-leb, eq-eqb, ne-eqb}
+use Rattle.base.specs.Pick.{pick}
+use Rattle.jit.specs.declared.Refusal.{Refusal}
+use Rattle.jit.specs.Limits.{shortestPage, longestPage, longestProgram, mostHelpers}
+use Rattle.jit.specs.Translation.{Inputs, slotsOf, Outcome, no, listed, twice, badHelpers, sizesOf}
+use Rattle.jit_judging.specs.declared.verdict.Verdict.{Verdict}
+use Rattle.jit_judging.specs.declared.verdict.Verdict.the-variants.{Good, Not}
+use Rattle.jit_judging.specs.Sizes.{sized, Sizes}
+
+-- one id further
+pub listed-on : (ids : List ℕ) (id k : ℕ) → k < length ids → ¬ (getD ids k 0 ≡ id) → listed id (drop k ids) ≡ listed id (drop (k + 1) ids)
+listed-on ids id k h n = rw (add-one k, drop-cons ids k 0 h, ne-eqb _ _ n)
+
+pub listed-hit : (ids : List ℕ) (id k : ℕ) → k < length ids → getD ids k 0 ≡ id → listed id (drop k ids) ≡ true
+listed-hit ids id k h e = rw (drop-cons ids k 0 h, eq-eqb _ _ e)
+
+pub listed-end : (ids : List ℕ) (id k : ℕ) → length ids ≤ k → listed id (drop k ids) ≡ false
+listed-end ids id k h = rw (drop-of-length-le ids h)
+
+pub twice-on : (ids : List ℕ) (k : ℕ) {b : Bool} → k < length ids → b ≡ listed (getD ids k 0) (drop (k + 1) ids) → b ≡ false
+    → twice (drop k ids) ≡ twice (drop (k + 1) ids)
+twice-on ids k h e f =
+    let q : listed (getD ids k 0) (drop (suc k) ids) ≡ false = rw (add-one k) at (sym e ∙ f) in
+    rw (add-one k) (ap twice (drop-cons ids k 0 h) ∙ rw q)
+
+pub twice-hit : (ids : List ℕ) (k : ℕ) {b : Bool} → k < length ids → b ≡ listed (getD ids k 0) (drop (k + 1) ids) → b ≡ true
+    → twice (drop k ids) ≡ true
+twice-hit ids k h e f =
+    let q : listed (getD ids k 0) (drop (suc k) ids) ≡ true = rw (add-one k) at (sym e ∙ f) in
+    ap twice (drop-cons ids k 0 h) ∙ rw q
+
+pub twice-end : (ids : List ℕ) (k : ℕ) → length ids ≤ k → twice (drop k ids) ≡ false
+twice-end ids k h = rw (drop-of-length-le ids h)
+
+-- The five tests, one behind the other: what is answered where one fails, and where all are passed.
+-- the page and the program are within the limits
+pub record Limited (prog page : ℕ) : Type 0 where
+  pub not-short : shortestPage ≤ page
+  pub not-long : page ≤ longestPage
+  pub program : prog ≤ longestProgram
+
+pub limited : {prog page : ℕ} → shortestPage ≤ page → page ≤ longestPage → prog ≤ longestProgram → Limited prog page
+limited a b c = record { not-short = a; not-long = b; program = c }
+
+-- each table has an entry for every slot and one more
+pub record Tables (prog locations fields targets : ℕ) : Type 0 where
+  pub first : prog / 8 < locations
+  pub second : prog / 8 < fields
+  pub third : prog / 8 < targets
+
+pub tables : {prog locations fields targets : ℕ} → prog / 8 < locations → prog / 8 < fields → prog / 8 < targets
+    → Tables prog locations fields targets
+tables a b c = record { first = a; second = b; third = c }
+
+-- where those are passed, what is left is the helpers' test
+helpers : {prog page locations fields targets : ℕ} (ids : List ℕ) (addresses : ℕ) → Limited prog page → Tables prog locations fields targets
+    → sized prog page locations fields targets ids addresses
+    ≡ pick (not (eqb (length ids) addresses) || (ltb mostHelpers (length ids) || twice ids)) (Not Refusal.BadHelpers) Good
+helpers ids addresses l t =
+    rw (le-ltb _ _ (l .not-short), le-ltb _ _ (l .not-long), le-ltb _ _ (l .program))
+    (rw (lt-leb _ _ (t .first), lt-leb _ _ (t .second), lt-leb _ _ (t .third)))
+
+module _ {prog page locations fields targets : ℕ} {ids : List ℕ} {addresses : ℕ} where
+  pub page-short : page < shortestPage → Sizes prog page locations fields targets ids addresses (Not Refusal.PageTooShort)
+  page-short h = record { answer = rw (lt-ltb _ _ h); fine = tt }
+
+  pub page-long : shortestPage ≤ page → longestPage < page → Sizes prog page locations fields targets ids addresses (Not Refusal.PageTooLong)
+  page-long a h = record { answer = rw (le-ltb _ _ a, lt-ltb _ _ h); fine = tt }
+
+  pub program-long : shortestPage ≤ page → page ≤ longestPage → longestProgram < prog
+      → Sizes prog page locations fields targets ids addresses (Not Refusal.ProgramTooLong)
+  program-long a b h = record { answer = rw (le-ltb _ _ a, le-ltb _ _ b, lt-ltb _ _ h); fine = tt }
+
+  module _ (l : Limited prog page) where
+    pub locations-short : locations ≤ prog / 8 → Sizes prog page locations fields targets ids addresses (Not Refusal.TableTooShort)
+    locations-short h =
+        record { answer = rw (le-ltb _ _ (l .not-short), le-ltb _ _ (l .not-long), le-ltb _ _ (l .program), le-leb _ _ h); fine = tt }
+
+    pub fields-short : prog / 8 < locations → fields ≤ prog / 8 → Sizes prog page locations fields targets ids addresses (Not Refusal.TableTooShort)
+    fields-short a h =
+        record {
+          answer = rw (le-ltb _ _ (l .not-short), le-ltb _ _ (l .not-long), le-ltb _ _ (l .program), lt-leb _ _ a, le-leb _ _ h);
+          fine = tt;
+        }
+
+    pub targets-short : prog / 8 < locations → prog / 8 < fields → targets ≤ prog / 8
+        → Sizes prog page locations fields targets ids addresses (Not Refusal.TableTooShort)
+    targets-short a b h =
+        record {
+          answer = rw (le-ltb _ _ (l .not-short), le-ltb _ _ (l .not-long), le-ltb _ _ (l .program), lt-leb _ _ a, lt-leb _ _ b, le-leb _ _ h);
+          fine = tt;
+        }
+
+    module _ (t : Tables prog locations fields targets) where
+      pub unpaired : ¬ (length ids ≡ addresses) → Sizes prog page locations fields targets ids addresses (Not Refusal.BadHelpers)
+      unpaired h = record { answer = sym (helpers ids addresses l t ∙ rw (ne-eqb _ _ h)); fine = tt }
+
+      pub too-many : length ids ≡ addresses → mostHelpers < length ids
+          → Sizes prog page locations fields targets ids addresses (Not Refusal.BadHelpers)
+      too-many e h = record { answer = sym (helpers ids addresses l t ∙ rw (eq-eqb _ _ e, lt-ltb _ _ h)); fine = tt }
+
+      pub one-twice : {b : Bool} → length ids ≡ addresses → length ids ≤ mostHelpers → b ≡ twice ids → b ≡ true
+          → Sizes prog page locations fields targets ids addresses (Not Refusal.BadHelpers)
+      one-twice e h q f = record { answer = sym (helpers ids addresses l t ∙ rw (eq-eqb _ _ e, le-ltb _ _ h, ← q, f)); fine = tt }
+
+      pub passed : {b : Bool} → length ids ≡ addresses → length ids ≤ mostHelpers → b ≡ twice ids → b ≡ false
+          → Sizes prog page locations fields targets ids addresses Good
+      passed e h q f =
+          record {
+            answer = sym (helpers ids addresses l t ∙ rw (eq-eqb _ _ e, le-ltb _ _ h, ← q, f));
+            fine = (l .not-short, (l .not-long, (l .program, (t .first, (t .second, (t .third, e))))));
+          }
+
+-- The tests are how the definition begins.
+abbrev pub begins : Verdict → Outcome → Outcome
+begins (Not r) o = no r
+begins Good o = o
+
+begins-pick : (b : Bool) (r : Refusal) (s : Verdict) (o : Outcome) → pick b (no r) (begins s o) ≡ begins (pick b (Not r) s) o
+begins-pick true r s o = refl
+begins-pick false r s o = refl
+
+abbrev sizedOf : Inputs → Verdict
+sizedOf x =
+    sized (length (x .filter .program)) (x .page) (x .locations) (x .fields) (x .targets) (x .filter .ids) (length (x .filter .addresses))
+
+pub sizes-begin : (x : Inputs) (o : Outcome) → sizesOf x o ≡ begins (sizedOf x) o
+unfolding sizesOf
+sizes-begin x o =
+    let n = slotsOf (x .filter .program) in
+    let a = ltb (x .page) shortestPage in
+    let b = ltb longestPage (x .page) in
+    let c = ltb longestProgram (length (x .filter .program)) in
+    let d = leb (x .locations) n || (leb (x .fields) n || leb (x .targets) n) in
+    let e = badHelpers (x .filter .ids) (x .filter .addresses) in
+    let s₁ = pick e (Not Refusal.BadHelpers) Good in
+    let s₂ = pick d (Not Refusal.TableTooShort) s₁ in
+    let s₃ = pick c (Not Refusal.ProgramTooLong) s₂ in
+    let s₄ = pick b (Not Refusal.PageTooLong) s₃ in
+    rw (begins-pick e Refusal.BadHelpers Good o, begins-pick d Refusal.TableTooShort s₁ o)
+    (rw (begins-pick c Refusal.ProgramTooLong s₂ o, begins-pick b Refusal.PageTooLong s₃ o, begins-pick a Refusal.PageTooShort s₄ o))

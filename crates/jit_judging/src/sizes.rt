@@ -1,0 +1,78 @@
+// Refusals 1 to 5: what can be said before a slot is read.
+ghost use mathlib.Core.Path.{_≡_};
+ghost use Prim.Native.Nat.{_≤_};
+ghost use lib.ListN.{length};
+ghost use Rattle.jit_judging.specs.Lent.{listedFrom, twice, Sizes};
+use crate::verdict::Verdict;
+use jit::Refusal;
+
+// Is the id among those from entry `from` on?
+fn is_listed(ids: &[u32], from: usize, id: u32) -> bool
+    requires { ⌜ from ≤ length (now ids) ⌝ }
+    ensures { λ r. ⌜ r ≡ listedFrom ids from id ⌝ }
+{
+    let mut k = from;
+    while k < ids.len() {
+        if ids[k] == id {
+            return true;
+        }
+        k += 1;
+    }
+    false
+}
+
+fn is_twice(ids: &[u32]) -> bool
+    ensures { λ r. ⌜ r ≡ twice ids ⌝ }
+{
+    let mut k: usize = 0;
+    while k < ids.len() {
+        if is_listed(ids, k + 1, ids[k]) {
+            return true;
+        }
+        k += 1;
+    }
+    false
+}
+
+// The lengths are those of the program, the page, the tables and the address list.
+pub fn sizes(
+    prog: usize,
+    page: usize,
+    locations: usize,
+    fields: usize,
+    targets: usize,
+    ids: &[u32],
+    addresses: usize,
+) -> Verdict
+    ensures { λ r. ⌜ Sizes prog page locations fields targets ids addresses r ⌝ }
+{
+    if page < jit::SHORTEST_PAGE {
+        return Verdict::Not(Refusal::PageTooShort);
+    }
+    if jit::LONGEST_PAGE < page {
+        return Verdict::Not(Refusal::PageTooLong);
+    }
+    if jit::LONGEST_PROGRAM < prog {
+        return Verdict::Not(Refusal::ProgramTooLong);
+    }
+    let n = prog / 8;
+    if locations <= n {
+        return Verdict::Not(Refusal::TableTooShort);
+    }
+    if fields <= n {
+        return Verdict::Not(Refusal::TableTooShort);
+    }
+    if targets <= n {
+        return Verdict::Not(Refusal::TableTooShort);
+    }
+    if ids.len() != addresses {
+        return Verdict::Not(Refusal::BadHelpers);
+    }
+    if jit::MOST_HELPERS < ids.len() {
+        return Verdict::Not(Refusal::BadHelpers);
+    }
+    if is_twice(ids) {
+        return Verdict::Not(Refusal::BadHelpers);
+    }
+    Verdict::Good
+}

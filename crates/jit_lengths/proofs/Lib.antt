@@ -1,0 +1,3 @@
+pub mod LengthsLaws
+pub mod MeasuresLaws
+pub mod Useless

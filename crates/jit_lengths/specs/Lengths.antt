@@ -1,0 +1,31 @@
+-- What the lengths are lengths of, where the encoding has no name for it.
+use mathlib.Core.Path.{_≡_}
+use mathlib.Core.Bool.{Bool, not}
+use mathlib.Core.List.{List, _++_}
+use Prim.Native.Nat.{ℕ, _+_}
+use lib.ListN.{length}
+use Rattle.base.specs.declared.Width.{Width}
+use Rattle.x86.specs.Instr.{aluImm}
+use Rattle.x86.specs.Encode.{wide, rex}
+use Rattle.ebpf.specs.declared.insn.Insn.{Insn}
+use Rattle.ebpf.specs.declared.kind.Source.{Source}
+use Rattle.ebpf.specs.declared.kind.Source.the-variants.{Imm, Reg}
+use Rattle.x86.specs.Registers.{RAX, RDX}
+use Rattle.x86.specs.Instr as x86
+use Rattle.x86.specs.Instr.{alu}
+use Rattle.x86.specs.Code.{size}
+use Rattle.jit.specs.MulDivMod.{saves, restored}
+use Rattle.jit.specs.Slots.{regOf}
+
+-- what `rexed_length` promises of k: a REX prefix and n bytes, whatever they are
+abbrev pub Rexed : Width → (r b n k : ℕ) → Type 0
+Rexed w r b n k = (xs : List ℕ) → length xs ≡ n → k ≡ length (rex (wide w) r b ++ xs)
+
+-- the two operands of arithmetic and of a comparison
+abbrev pub operands : x86.Alu → Width → Source → Insn → x86.Plain
+operands o w Imm i = aluImm o w (regOf (i .dst)) (i .imm)
+operands o w Reg i = alu o w (regOf (i .src)) (regOf (i .dst))
+
+-- Multiplication, division and modulo: RAX and RDX, saved and restored, and the result that goes to dst, from RAX or from RDX.
+abbrev pub kept : Bool → (dst : ℕ) → ℕ
+kept fromRax dst = size (saves dst) + size (restored dst RDX (not fromRax) ++ restored dst RAX fromRax)

@@ -1,0 +1,135 @@
+// The length of each form of instruction, as the emitters write it.
+ghost use mathlib.Core.Path.{_≡_};
+ghost use Prim.Native.Nat.{ℕ, _+_, _≤_, _<_};
+ghost use lib.ListN.{length};
+ghost use Rattle.x86.specs.Encode.{wideSize, rex, memory, loadOpcode, prefix66, storeRex, immBytes, encodePlain};
+ghost use Rattle.x86.specs.Instr.{load, store, storeImm};
+ghost use Rattle.jit.specs.Slots.{loadImm};
+ghost use Rattle.jit_lengths.specs.Lengths.{Rexed};
+use base::Size;
+use base::Width;
+
+// The REX prefix, which is left out where none of its bits is set.
+pub fn rex_length(w: u8, r: u8, b: u8) -> usize
+    requires { ⌜ (w < 2) × ((r < 16) × (b < 16)) ⌝ }
+    ensures { λ x. ⌜ (x ≡ length (rex w r b)) × (x ≤ 1) ⌝ }
+{
+    if 8 * w + 4 * (r / 8) + b / 8 == 0 {
+        return 0;
+    }
+    1
+}
+
+// A REX prefix and `rest` bytes.
+pub fn rexed_length(width: Width, r: u8, b: u8, rest: usize) -> usize
+    requires { ⌜ (r < 16) × ((b < 16) × (rest ≤ 16)) ⌝ }
+    ensures { λ x. ⌜ Rexed width r b rest x × (x ≤ 17) ⌝ }
+{
+    rex_length(x86_emit::alu::wide(width), r, b) + rest
+}
+
+// ModRM and displacement, whatever stands in reg.
+pub fn memory_length(base: u8, disp: u32) -> usize
+    ensures { λ x. ⌜ ((reg : ℕ) → x ≡ length (memory reg base disp)) × (x ≤ 5) ⌝ }
+{
+    if x86_emit::memory::bare(base, disp) {
+        return 1;
+    }
+    if x86_emit::memory::short(disp) {
+        return 2;
+    }
+    5
+}
+
+// REX.W
+fn wide_size(size: Size) -> u8
+    ensures { λ x. ⌜ (x ≡ wideSize size) × (x < 2) ⌝ }
+{
+    match size {
+        Size::S8 => 0,
+        Size::S16 => 0,
+        Size::S32 => 0,
+        Size::S64 => 1,
+    }
+}
+
+fn load_opcode_length(size: Size) -> usize
+    ensures { λ x. ⌜ (x ≡ length (loadOpcode size)) × (x ≤ 2) ⌝ }
+{
+    match size {
+        Size::S8 => 2,
+        Size::S16 => 2,
+        Size::S32 => 1,
+        Size::S64 => 1,
+    }
+}
+
+pub fn load_length(size: Size, base: u8, dst: u8, disp: u32) -> usize
+    requires { ⌜ (base < 16) × (dst < 16) ⌝ }
+    ensures { λ x. ⌜ (x ≡ length (encodePlain (load size base dst disp))) × (x ≤ 8) ⌝ }
+{
+    let rex = rex_length(wide_size(size), dst, base);
+    rex + (load_opcode_length(size) + memory_length(base, disp))
+}
+
+// The 16-bit override.
+fn prefix_length(size: Size) -> usize
+    ensures { λ x. ⌜ (x ≡ length (prefix66 size)) × (x ≤ 1) ⌝ }
+{
+    match size {
+        Size::S8 => 0,
+        Size::S16 => 1,
+        Size::S32 => 0,
+        Size::S64 => 0,
+    }
+}
+
+// A byte store always has a REX prefix.
+fn store_rex_length(size: Size, src: u8, base: u8) -> usize
+    requires { ⌜ (src < 16) × (base < 16) ⌝ }
+    ensures { λ x. ⌜ (x ≡ length (storeRex size src base)) × (x ≤ 1) ⌝ }
+{
+    match size {
+        Size::S8 => 1,
+        Size::S16 => rex_length(0, src, base),
+        Size::S32 => rex_length(0, src, base),
+        Size::S64 => rex_length(1, src, base),
+    }
+}
+
+pub fn store_length(size: Size, src: u8, base: u8, disp: u32) -> usize
+    requires { ⌜ (src < 16) × (base < 16) ⌝ }
+    ensures { λ x. ⌜ (x ≡ length (encodePlain (store size src base disp))) × (x ≤ 8) ⌝ }
+{
+    let rex = store_rex_length(size, src, base);
+    prefix_length(size) + (rex + (1 + memory_length(base, disp)))
+}
+
+fn imm_length(size: Size) -> usize
+    ensures { λ x. ⌜ ((i : ℕ) → x ≡ length (immBytes size i)) × (x ≤ 4) ⌝ }
+{
+    match size {
+        Size::S8 => 1,
+        Size::S16 => 2,
+        Size::S32 => 4,
+        Size::S64 => 4,
+    }
+}
+
+pub fn store_imm_length(size: Size, base: u8, disp: u32) -> usize
+    requires { ⌜ base < 16 ⌝ }
+    ensures { λ x. ⌜ ((i : ℕ) → x ≡ length (encodePlain (storeImm size base disp i))) × (x ≤ 12) ⌝ }
+{
+    let rex = rex_length(wide_size(size), 0, base);
+    prefix_length(size) + (rex + (1 + (memory_length(base, disp) + imm_length(size))))
+}
+
+// A constant in the signed 32-bit range takes four bytes, any other eight.
+pub fn load_imm_length(value: u64) -> usize
+    ensures { λ x. ⌜ ((d : ℕ) → x ≡ length (encodePlain (loadImm d value))) × (x ≤ 10) ⌝ }
+{
+    if std::num::wrapping_add_u64(value, 0x8000_0000) < 0x1_0000_0000 {
+        return 7;
+    }
+    10
+}

@@ -1,0 +1,3 @@
+pub mod Measures
+pub mod Fits
+pub mod Lent

@@ -1,0 +1,349 @@
+-- The code of crate jit is code with notes that pass: every kind of slot, the three prologues and the epilogue.
+use mathlib.Core.Path.{_≡_, refl, _∙_}
+use mathlib.Core.Bool.{Bool, true, false, not, _&&_}
+use mathlib.Core.List.{[], _∷_, _++_}
+use Prim.Native.Nat.{ℕ, _+_, _%_, _^_, _<_}
+use native.Mathlib.Omega.{arith}
+use lib.Dec.{T, T-not, ltb, eqb, ltb→lt}
+use Rattle.base.specs.Pick.{pick}
+use Rattle.base.proofs.Tests.{true-T, and-l, and-r, eqb-true}
+use Rattle.base.specs.declared.Width.{Width}
+use Rattle.base.specs.declared.Width.the-variants.{W32, W64}
+use Rattle.base.specs.declared.Size.{Size}
+use Rattle.base.specs.declared.Size.the-variants.{S8, S16, S32, S64}
+use Rattle.ebpf.specs.declared.insn.Insn.{Insn}
+use Rattle.ebpf.specs.declared.kind.Source.the-variants.{Imm, Reg}
+use Rattle.ebpf.specs.declared.kind.MulOp.{MulOp}
+use Rattle.ebpf.specs.declared.kind.MulOp.the-variants.{Mul, Div, Mod}
+use Rattle.ebpf.specs.declared.kind.Kind.{Kind}
+use Rattle.ebpf.specs.declared.kind.Kind.the-variants.{LdAbs, LdInd, LdDwImm, LdReg, StImm, StReg, Alu, Shift, Neg, MulDivMod, Mov, Le, Be, Ja, Jump, Call, Exit}
+use Rattle.x86.specs.Registers.{RAX, RCX, RDX, R9}
+use Rattle.x86.specs.Instr as x86
+use Rattle.x86.specs.Instr.{Plain, immBits, push, pop, alu, aluImm, shiftImm, shiftCl, unary, movabs, rol16, bswap, load, jmp, call, jcc, Instr, op, jump}
+use Rattle.x86.specs.Instr.{callReg, ADD, OR, AND, SUB, XOR, CMP, MOV, TEST, NEG}
+use Rattle.x86.proofs.WellFormed.{Base, WfPlain}
+use Rattle.x86.specs.Encode.{rex}
+use Rattle.x86.proofs.Lengths.{plain-most}
+use Rattle.x86.specs.Code.{Dest, to}
+use Rattle.jit.specs.MulDivMod.{Code, unlessIs, byZero, guard, operate, fromRax, saved, restored, restores, operated, computed, mulDivModImm, mulDivModReg}
+use Rattle.jit.specs.MulDivMod as jit
+use Rattle.jit.specs.Slots.{regOf, targetOf, loadImm, aluOf, shiftOf, condOf, testOf, swap, helperCall, localCall, slotCode}
+use Rattle.jit.specs.Frame.{saves, packetStart, packetEnd, argument, enter, prologue, epilogue}
+use Rattle.jit.specs.declared.Flags.{Flags}
+use Rattle.x86.proofs.ReadsLaws.{WfDest, WfCode, wf-append}
+use Rattle.jit_safety.proofs.Cells.{instrs}
+use Rattle.jit_safety.proofs.Depth.{framed}
+use Rattle.jit_safety.proofs.Notes.{plain, annotated, codes-annotated, prologueCells, epilogueCells}
+use Rattle.jit_safety.proofs.Checked.{fineNotes, byImm, everyRegister, register, reg-fine, imm-fine, local-fine}
+use Rattle.jit_safety.proofs.Pieces.{Piece, append, none, found, unnoted, allListed, skipsIn, instrs-laid}
+
+-- What a slot's numbers are: fields of a slot, and what it takes from elsewhere.
+pub record Numbers (slot : ℕ) (i : Insn) (value : ℕ) : Type 0 where
+  pub here : slot < 2 ^ 32
+  pub off : i .off < 2 ^ 32
+  pub imm : i .imm < 2 ^ 32
+  pub wide : value < 2 ^ 64
+
+-- A register of the program is below 16, and is none that would need a SIB byte as a base.
+fits16 : (n : ℕ) → T (ltb (regOf n) 16 && not (eqb (regOf n % 8) 4))
+fits16 n = register (λ r. ltb r 16 && not (eqb (r % 8) 4)) tt n
+
+reg-lt : (n : ℕ) → regOf n < 16
+reg-lt n = ltb→lt (regOf n) 16 (and-l (ltb (regOf n) 16) (not (eqb (regOf n % 8) 4)) (fits16 n))
+
+reg-base : (n : ℕ) → Base (regOf n)
+reg-base n =
+    let r = regOf n in
+    (reg-lt n, λ e. T-not (eqb (r % 8) 4) (and-r (ltb r 16) (not (eqb (r % 8) 4)) (fits16 n)) (true-T _ (eqb-true (r % 8) 4 e)))
+
+-- One instruction that writes one register of the program, or none.
+alu-piece : (o : x86.Alu) (w : Width) (s d : ℕ) → s < 16 → Piece (op (alu o w s (regOf d)) ∷ [])
+alu-piece o w s d h = unnoted _ (register (λ r. fineNotes (plain (op (alu o w s r) ∷ []))) (by o) d) ((h, reg-lt d), tt) tt
+  where
+    by : (o : x86.Alu) → T (everyRegister (λ r. fineNotes (plain (op (alu o w s r) ∷ []))))
+    by ADD = tt
+    by OR = tt
+    by AND = tt
+    by SUB = tt
+    by XOR = tt
+    by CMP = tt
+    by MOV = tt
+    by TEST = tt
+
+imm-piece : (o : x86.Alu) (w : Width) (d x : ℕ) → x < 2 ^ 32 → Piece (op (aluImm o w (regOf d) x) ∷ [])
+imm-piece o w d x h = unnoted _ (register (λ r. fineNotes (plain (op (aluImm o w r x) ∷ []))) (by o) d) ((reg-lt d, h), tt) tt
+  where
+    by : (o : x86.Alu) → T (everyRegister (λ r. fineNotes (plain (op (aluImm o w r x) ∷ []))))
+    by ADD = tt
+    by OR = tt
+    by AND = tt
+    by SUB = tt
+    by XOR = tt
+    by CMP = tt
+    by MOV = tt
+    by TEST = tt
+
+-- a constant
+load-wf : (d v : ℕ) → d < 16 → v < 2 ^ 64 → WfPlain (loadImm d v)
+unfolding loadImm
+load-wf d v h g = by (ltb ((v + 2 ^ 31) % 2 ^ 64) (2 ^ 32))
+  where
+    by : (t : Bool) → WfPlain (pick t (aluImm MOV W64 d (v % 2 ^ 32)) (movabs d v))
+    by true = (h, omega arith)
+    by false = (h, g)
+
+load-fine : (d v : ℕ) → T (fineNotes (plain (op (loadImm (regOf d) v) ∷ [])))
+unfolding loadImm
+load-fine d v = by (ltb ((v + 2 ^ 31) % 2 ^ 64) (2 ^ 32))
+  where
+    by : (t : Bool) → T (fineNotes (plain (op (pick t (aluImm MOV W64 (regOf d) (v % 2 ^ 32)) (movabs (regOf d) v)) ∷ [])))
+    by true = register (λ r. fineNotes (plain (op (aluImm MOV W64 r (v % 2 ^ 32)) ∷ []))) tt d
+    by false = register (λ r. fineNotes (plain (op (movabs r v) ∷ []))) tt d
+
+load-piece : (d v : ℕ) → v < 2 ^ 64 → Piece (op (loadImm (regOf d) v) ∷ [])
+load-piece d v h = unnoted _ (load-fine d v) (load-wf (regOf d) v (reg-lt d) h, tt) tt
+
+-- an immediate is stored with as many bits as there is room for
+stored-lt : (z : Size) (i : ℕ) → i % 2 ^ immBits z < 2 ^ immBits z
+stored-lt S8 i = omega arith
+stored-lt S16 i = omega arith
+stored-lt S32 i = omega arith
+stored-lt S64 i = omega arith
+
+chosen : (t : Bool) (a b : Code) → Piece a → Piece b → Piece (pick t a b)
+chosen true a b p q = p
+chosen false a b p q = q
+
+-- BE
+swap-piece : (d bits : ℕ) → Piece (swap (regOf d) bits)
+swap-piece d bits =
+    let r = regOf d in
+    let rotated = op (rol16 r 8) ∷ op (aluImm AND W32 r 0xffff) ∷ [] in
+    let low = op (bswap W32 r) ∷ [] in
+    let whole = op (bswap W64 r) ∷ [] in
+    chosen (eqb bits 16) rotated (pick (eqb bits 32) low whole)
+    (append (op (rol16 r 8) ∷ []) (op (aluImm AND W32 r 0xffff) ∷ [])
+    (unnoted _ (register (λ r. fineNotes (plain (op (rol16 r 8) ∷ []))) tt d) ((reg-lt d, omega arith), tt) tt)
+    (imm-piece AND W32 d 0xffff (omega arith)))
+    (chosen (eqb bits 32) low whole
+    (unnoted _ (register (λ r. fineNotes (plain (op (bswap W32 r) ∷ []))) tt d) (reg-lt d, tt) tt)
+    (unnoted _ (register (λ r. fineNotes (plain (op (bswap W64 r) ∷ []))) tt d) (reg-lt d, tt) tt))
+
+-- CALL
+helper-piece : (a : ℕ) → a < 2 ^ 64 → Piece (helperCall a)
+unfolding loadImm
+helper-piece a h =
+    append (op (alu MOV W64 R9 RCX) ∷ []) (op (loadImm RAX a) ∷ callReg RAX ∷ []) (unnoted _ tt ((omega arith, omega arith), tt) tt)
+    (append (op (loadImm RAX a) ∷ []) (callReg RAX ∷ []) (unnoted _ rax (load-wf RAX a (omega arith) h, tt) tt) (unnoted _ tt (omega arith, tt) tt))
+  where
+    rax : T (fineNotes (plain (op (loadImm RAX a) ∷ [])))
+    rax = by (ltb ((a + 2 ^ 31) % 2 ^ 64) (2 ^ 32))
+      where
+        by : (t : Bool) → T (fineNotes (plain (op (pick t (aluImm MOV W64 RAX (a % 2 ^ 32)) (movabs RAX a)) ∷ [])))
+        by true = tt
+        by false = tt
+
+local-piece : (t : ℕ) → Piece (localCall t)
+local-piece t = found (localCall t) (local-fine t) (omega arith) tt
+
+-- MUL, DIV, MOD: their registers and constants
+wf-unless : (r s : ℕ) (c : Code) → WfCode c → WfCode (unlessIs r s c)
+wf-unless r s c w = by (eqb r s)
+  where
+    by : (t : Bool) → WfCode (pick t [] c)
+    by true = tt
+    by false = w
+
+operate-wf : (o : MulOp) (w : Width) → WfCode (operate o w)
+operate-wf Mul w = omega arith
+operate-wf Div w = omega arith
+operate-wf Mod w = omega arith
+
+restores-wf : (o : MulOp) (d : ℕ) → d < 16 → WfCode (restores o d)
+restores-wf o d h = by (fromRax o)
+  where
+    each : (r : ℕ) (b : Bool) → r < 16 → WfCode (restored d r b)
+    each r true g = wf-unless d r (op (alu MOV W64 r d) ∷ op (pop r) ∷ []) (omega arith)
+    each r false g = wf-unless d r (op (pop r) ∷ []) (omega arith)
+
+    by : (b : Bool) → WfCode (restored d RDX (not b) ++ restored d RAX b)
+    by b = wf-append (restored d RDX (not b)) (restored d RAX b) (each RDX (not b) (omega arith)) (each RAX b (omega arith))
+
+saves-wf : (d : ℕ) → WfCode (jit.saves d)
+saves-wf d =
+    wf-append (saved d RAX) (saved d RDX) (wf-unless d RAX (op (push RAX) ∷ []) (omega arith)) (wf-unless d RDX (op (push RDX) ∷ []) (omega arith))
+
+computed-wf : (o : MulOp) (w : Width) (operand : Instr Dest) (d : ℕ) → WfDest operand → d < 16 → WfCode (computed o w (operand ∷ []) d)
+computed-wf o w operand d h g =
+    wf-append (jit.saves d) (operand ∷ operated o w d) (saves-wf d)
+    (h, ((g, omega arith), wf-append (operate o w) (restores o d) (operate-wf o w) (restores-wf o d g)))
+
+guard-wf : (o : MulOp) (slot : ℕ) (w : Width) (s d : ℕ) → slot < 2 ^ 32 → s < 16 → d < 16 → WfCode (guard o slot w s d)
+guard-wf Mul slot w s d h hs hd = tt
+guard-wf Div slot w s d h hs hd = omega (arith, plain-most (alu XOR W32 d d))
+guard-wf Mod slot w s d h hs hd = omega arith
+
+-- their skips
+reg-skips : (o : MulOp) (slot : ℕ) (w : Width) (s d : ℕ) → T (skipsIn (mulDivModReg o slot w s (regOf d)))
+unfolding rex
+reg-skips o slot w s d = register (λ r. skipsIn (mulDivModReg o slot w s r)) (by o) d
+  where
+    by : (o : MulOp) → T (everyRegister (λ r. skipsIn (mulDivModReg o slot w s r)))
+    by Mul = tt
+    by Div = tt
+    by Mod = tt
+
+imm-skips : (o : MulOp) (w : Width) (d x : ℕ) → T (skipsIn (byImm o w (regOf d) x))
+imm-skips o w d x = register (λ r. skipsIn (byImm o w r x)) (by o) d
+  where
+    by : (o : MulOp) → T (everyRegister (λ r. skipsIn (byImm o w r x)))
+    by Mul = tt
+    by Div = tt
+    by Mod = tt
+
+by-reg-piece : (o : MulOp) (slot : ℕ) (w : Width) (s d : ℕ) → slot < 2 ^ 32 → Piece (mulDivModReg o slot w (regOf s) (regOf d))
+by-reg-piece o slot w s d h =
+    let a = regOf s in
+    let b = regOf d in
+    found (mulDivModReg o slot w a b) (reg-fine o w slot s d)
+    (wf-append (guard o slot w a b) (computed o w (op (alu MOV W64 a RCX) ∷ []) b) (guard-wf o slot w a b h (reg-lt s) (reg-lt d))
+    (computed-wf o w (op (alu MOV W64 a RCX)) b (reg-lt s, omega arith) (reg-lt d)))
+    (reg-skips o slot w a d)
+
+zero-piece : (o : MulOp) (d : ℕ) → Piece (byZero o (regOf d))
+zero-piece Mul d = alu-piece XOR W32 (regOf d) d (reg-lt d)
+zero-piece Div d = alu-piece XOR W32 (regOf d) d (reg-lt d)
+zero-piece Mod d = none
+
+by-imm-piece : (o : MulOp) (w : Width) (d x : ℕ) → x < 2 ^ 32 → Piece (mulDivModImm o w (regOf d) x)
+by-imm-piece o w d x h = by (eqb x 0) refl
+  where
+    by : (t : Bool) → eqb x 0 ≡ t → Piece (pick t (byZero o (regOf d)) (computed o w (op (aluImm MOV W64 RCX x) ∷ []) (regOf d)))
+    by true e = zero-piece o d
+    by false e = found _ (imm-fine o w d x e) (computed-wf o w (op (aluImm MOV W64 RCX x)) (regOf d) (omega arith, h) (reg-lt d)) (imm-skips o w d x)
+
+-- a condition's test, and its jump
+jump-piece : (j : x86.Jump) (t : ℕ) → Piece (jump j (to t) ∷ [])
+jump-piece jmp t = unnoted _ tt (omega arith, tt) tt
+jump-piece call t = unnoted _ tt (omega arith, tt) tt
+jump-piece (jcc c) t = unnoted _ tt (omega arith, tt) tt
+
+-- Every kind of slot.
+pub slot-piece : (k : Kind) (slot : ℕ) (i : Insn) (value : ℕ) → Numbers slot i value → Piece (slotCode k slot i value)
+slot-piece (LdAbs z) slot i value n = unnoted _ tt (omega (arith, n .imm)) tt
+slot-piece (LdInd z) slot i value n = unnoted _ tt (omega (arith, n .imm, reg-lt (i .src))) tt
+slot-piece LdDwImm slot i value n = load-piece (i .dst) value (n .wide)
+slot-piece (LdReg z) slot i value n =
+    unnoted _ (register (λ r. fineNotes (plain (op (load z (regOf (i .src)) r (i .off)) ∷ []))) tt (i .dst)) ((reg-base (i .src), (reg-lt (i .dst), n .off)), tt) tt
+slot-piece (StImm z) slot i value n = unnoted _ tt ((reg-base (i .dst), (n .off, stored-lt z (i .imm))), tt) tt
+slot-piece (StReg z) slot i value n = unnoted _ tt ((reg-lt (i .src), (reg-base (i .dst), n .off)), tt) tt
+slot-piece (Alu o w Imm) slot i value n = imm-piece (aluOf o) w (i .dst) (i .imm) (n .imm)
+slot-piece (Alu o w Reg) slot i value n = alu-piece (aluOf o) w (regOf (i .src)) (i .dst) (reg-lt (i .src))
+slot-piece (Shift o w Imm) slot i value n =
+    unnoted _ (register (λ r. fineNotes (plain (op (shiftImm (shiftOf o) w r (i .imm % 256)) ∷ []))) tt (i .dst)) ((reg-lt (i .dst), omega arith), tt) tt
+slot-piece (Shift o w Reg) slot i value n =
+    let s = regOf (i .src) in
+    unnoted _ (register (λ r. fineNotes (plain (op (alu MOV W64 s RCX) ∷ op (shiftCl (shiftOf o) w r) ∷ []))) tt (i .dst)) ((reg-lt (i .src), omega arith), (reg-lt (i .dst), tt)) tt
+slot-piece (Neg w) slot i value n = unnoted _ (register (λ r. fineNotes (plain (op (unary NEG w r) ∷ []))) tt (i .dst)) (reg-lt (i .dst), tt) tt
+slot-piece (MulDivMod o w Imm) slot i value n = by-imm-piece o w (i .dst) (i .imm) (n .imm)
+slot-piece (MulDivMod o w Reg) slot i value n = by-reg-piece o slot w (i .src) (i .dst) (n .here)
+slot-piece (Mov w Imm) slot i value n = imm-piece MOV w (i .dst) (i .imm) (n .imm)
+slot-piece (Mov w Reg) slot i value n = alu-piece MOV W64 (regOf (i .src)) (i .dst) (reg-lt (i .src))
+slot-piece Le slot i value n = none
+slot-piece Be slot i value n = swap-piece (i .dst) (i .imm)
+slot-piece Ja slot i value n = jump-piece jmp (targetOf slot (i .off))
+slot-piece (Jump c w Imm) slot i value n =
+    append (op (aluImm (testOf c) w (regOf (i .dst)) (i .imm)) ∷ []) (jump (jcc (condOf c)) (to (targetOf slot (i .off))) ∷ [])
+    (imm-piece (testOf c) w (i .dst) (i .imm) (n .imm)) (jump-piece (jcc (condOf c)) (targetOf slot (i .off)))
+slot-piece (Jump c w Reg) slot i value n =
+    append (op (alu (testOf c) w (regOf (i .src)) (regOf (i .dst))) ∷ []) (jump (jcc (condOf c)) (to (targetOf slot (i .off))) ∷ [])
+    (alu-piece (testOf c) w (regOf (i .src)) (i .dst) (reg-lt (i .src))) (jump-piece (jcc (condOf c)) (targetOf slot (i .off)))
+slot-piece Call slot i value n = chosen (eqb (i .src) 0) (helperCall value) (localCall (targetOf slot (i .imm))) (helper-piece value (n .wide)) (local-piece (targetOf slot (i .imm)))
+slot-piece Exit slot i value n = unnoted _ tt (tt, tt) tt
+
+-- Only a division by a register has a jump that is not listed.
+pub data Skipping (k : Kind) (c : Code) : Type 0 where
+  divides : (w : Width) → k ≡ MulDivMod Div w Reg → Skipping k c
+  none-skips : T (allListed c) → Skipping k c
+
+computed-listed : (o : MulOp) (w : Width) (operand : Plain) (d : ℕ) → T (allListed (computed o w (op operand ∷ []) (regOf d)))
+computed-listed o w operand d = register (λ r. allListed (computed o w (op operand ∷ []) r)) (by o) d
+  where
+    by : (o : MulOp) → T (everyRegister (λ r. allListed (computed o w (op operand ∷ []) r)))
+    by Mul = tt
+    by Div = tt
+    by Mod = tt
+
+imm-listed : (o : MulOp) (w : Width) (d x : ℕ) → T (allListed (mulDivModImm o w (regOf d) x))
+imm-listed o w d x = by o (eqb x 0)
+  where
+    by : (o : MulOp) (t : Bool) → T (allListed (pick t (byZero o (regOf d)) (computed o w (op (aluImm MOV W64 RCX x) ∷ []) (regOf d))))
+    by Mul true = tt
+    by Div true = tt
+    by Mod true = tt
+    by o false = computed-listed o w (aluImm MOV W64 RCX x) d
+
+by-reg-skipping : (o : MulOp) (w : Width) (slot s d : ℕ) → Skipping (MulDivMod o w Reg) (mulDivModReg o slot w (regOf s) (regOf d))
+by-reg-skipping Mul w slot s d = none-skips (computed-listed Mul w (alu MOV W64 (regOf s) RCX) d)
+by-reg-skipping Div w slot s d = divides w refl
+by-reg-skipping Mod w slot s d = none-skips (computed-listed Mod w (alu MOV W64 (regOf s) RCX) d)
+
+swap-listed : (d bits : ℕ) → T (allListed (swap d bits))
+swap-listed d bits = by (eqb bits 16) (eqb bits 32)
+  where
+    by : (s t : Bool) → T (allListed (pick s (op (rol16 d 8) ∷ op (aluImm AND W32 d 0xffff) ∷ []) (pick t (op (bswap W32 d) ∷ []) (op (bswap W64 d) ∷ []))))
+    by true t = tt
+    by false true = tt
+    by false false = tt
+
+call-listed : (slot : ℕ) (i : Insn) (value : ℕ) → T (allListed (slotCode Call slot i value))
+call-listed slot i value = by (eqb (i .src) 0)
+  where
+    by : (t : Bool) → T (allListed (pick t (helperCall value) (localCall (targetOf slot (i .imm)))))
+    by true = tt
+    by false = tt
+
+pub slot-skipping : (k : Kind) (slot : ℕ) (i : Insn) (value : ℕ) → Skipping k (slotCode k slot i value)
+slot-skipping (LdAbs z) slot i value = none-skips tt
+slot-skipping (LdInd z) slot i value = none-skips tt
+slot-skipping LdDwImm slot i value = none-skips tt
+slot-skipping (LdReg z) slot i value = none-skips tt
+slot-skipping (StImm z) slot i value = none-skips tt
+slot-skipping (StReg z) slot i value = none-skips tt
+slot-skipping (Alu o w Imm) slot i value = none-skips tt
+slot-skipping (Alu o w Reg) slot i value = none-skips tt
+slot-skipping (Shift o w Imm) slot i value = none-skips tt
+slot-skipping (Shift o w Reg) slot i value = none-skips tt
+slot-skipping (Neg w) slot i value = none-skips tt
+slot-skipping (MulDivMod o w Imm) slot i value = none-skips (imm-listed o w (i .dst) (i .imm))
+slot-skipping (MulDivMod o w Reg) slot i value = by-reg-skipping o w slot (i .src) (i .dst)
+slot-skipping (Mov w Imm) slot i value = none-skips tt
+slot-skipping (Mov w Reg) slot i value = none-skips tt
+slot-skipping Le slot i value = none-skips tt
+slot-skipping Be slot i value = none-skips (swap-listed (regOf (i .dst)) (i .imm))
+slot-skipping Ja slot i value = none-skips tt
+slot-skipping (Jump c w s) slot i value = none-skips tt
+slot-skipping Call slot i value = none-skips (call-listed slot i value)
+slot-skipping Exit slot i value = none-skips tt
+
+-- The frame: the same instructions, and their constants.
+pub prologue-same : (f : Flags) → instrs (prologueCells f) ≡ prologue f
+unfolding prologueCells
+prologue-same f = instrs-laid false 0 (annotated (prologue f)) ∙ codes-annotated (prologue f)
+
+pub prologue-wf : (f : Flags) → WfCode (prologue f)
+unfolding saves packetStart packetEnd argument enter prologue
+prologue-wf f = by (f .use_mbuff) (f .update_data_ptr)
+  where
+    by : (a b : Bool) → WfCode (prologue (record { use_mbuff = a; update_data_ptr = b }))
+    by true true = omega arith
+    by true false = omega arith
+    by false b = omega arith
+
+pub epilogue-same : instrs epilogueCells ≡ epilogue
+unfolding epilogueCells
+epilogue-same = instrs-laid true framed (annotated epilogue) ∙ codes-annotated epilogue
+
+pub epilogue-wf : WfCode epilogue
+unfolding epilogue
+epilogue-wf = omega arith

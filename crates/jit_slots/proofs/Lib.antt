@@ -1,0 +1,2 @@
+pub mod Useless
+pub mod SlotCodes

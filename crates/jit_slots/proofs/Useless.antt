@@ -1,0 +1,118 @@
+-- What the handlers' contracts rule out: for each, two wrong handlers and an instruction that shows the difference. Where the contract is
+-- `Wrote` of some bytes, other bytes do not meet it on any page; where it is `Emits`, neither do a wrong target, field or count of jumps.
+use mathlib.Core.Path.{_≡_, _∙_, refl, ap}
+use mathlib.Core.List.{List, [], _∷_}
+use Prim.Native.Nat.{ℕ, _+_, _-_, _%_, _^_, _<_}
+use native.Mathlib.Omega.{arith}
+use lib.ListN.{length, getD}
+use lib.Seq.{getD-set-same}
+use Rattle.base.specs.Bytes.{join}
+use Rattle.base.specs.declared.Width.the-variants.{W32, W64}
+use Rattle.base.specs.declared.Size.the-variants.{S8, S16, S32, S64}
+use Rattle.ebpf.specs.declared.insn.Insn.{Insn}
+use Rattle.ebpf.specs.declared.kind.Source.the-variants.{Imm, Reg}
+use Rattle.ebpf.specs.declared.kind.AluOp.the-variants.{Add, Sub}
+use Rattle.ebpf.specs.declared.kind.ShiftOp.the-variants.{Rsh, Arsh}
+use Rattle.ebpf.specs.declared.kind.Condition.the-variants.{Jgt, Jset}
+use Rattle.ebpf.specs.declared.kind.Kind.the-variants.{LdAbs, LdInd, LdDwImm, LdReg, StImm, StReg, Neg, Ja}
+use Rattle.x86.specs.Registers.{RAX, RSI, RDI, R10, R11}
+use Rattle.x86.specs.Instr as x86
+use Rattle.x86.specs.Instr.{op, alu, aluImm, shiftImm, shiftCl, unary, movabs, rol16, bswap, load, store, storeImm, jump, jcc, callReg, NEG, ADD, SUB, CMP, MOV, SHR, JG, JA, JNE}
+use Rattle.x86.specs.Encode.{encodePlain, rex, modrm, memory, bare, short}
+use Rattle.x86.specs.Code.{to}
+use Rattle.x86.specs.Fill.{blanks}
+use Rattle.jit.specs.Slots.{regOf, targetOf, loadImm, aluCode, shiftCode, movCode, swap, jumpCode, callCode, slotCode}
+use Rattle.jit_recording.specs.Emits.{Emits, Put}
+use Rattle.x86_emit.proofs.Useless.{Stored, meant, Case, _for_, Refuted, refuted}
+
+-- r1 is RDI, r2 RSI
+abbrev insn : (dst src off imm : ℕ) → Insn
+insn dst src off imm = record { opc = 0; dst = dst; src = src; off = off; imm = imm }
+
+abbrev plain : x86.Plain → List ℕ
+plain p = blanks (op p ∷ [])
+
+abbrev pub handled : List Case
+handled =
+    -- emit_arithmetic: ADD32_IMM at 64 bits; SUB64_REG with its operands swapped
+    plain (aluImm ADD W64 RDI 5) for blanks (aluCode Add W32 Imm (insn 1 0 0 5))
+    ∷ plain (alu SUB W64 RDI RSI) for blanks (aluCode Sub W64 Reg (insn 1 2 0 0))
+    -- emit_shift: a logical shift for ARSH; a count that is left in its register
+    ∷ plain (shiftImm SHR W64 RDI 3) for blanks (shiftCode Arsh W64 Imm (insn 1 0 0 3))
+    ∷ plain (shiftCl SHR W32 RDI) for blanks (shiftCode Rsh W32 Reg (insn 1 2 0 0))
+    -- emit_neg: at 64 bits; src for dst
+    ∷ plain (unary NEG W64 RDI) for blanks (slotCode (Neg W32) 0 (insn 1 2 0 0) 0)
+    ∷ plain (unary NEG W64 RSI) for blanks (slotCode (Neg W64) 0 (insn 1 2 0 0) 0)
+    -- emit_mov: MOV32_IMM in the 64-bit form; MOV32_REG at 32 bits, which rbpf copies whole
+    ∷ plain (aluImm MOV W64 RDI 5) for blanks (movCode W32 Imm (insn 1 0 0 5))
+    ∷ plain (alu MOV W32 RSI RDI) for blanks (movCode W32 Reg (insn 1 2 0 0))
+    -- emit_be: 16 bits whose upper ones are kept; 32 bits swapped as 64
+    ∷ plain (rol16 RDI 8) for blanks (swap (regOf 1) 16)
+    ∷ plain (bswap W64 RDI) for blanks (swap (regOf 1) 32)
+    -- emit_ld_abs: off for imm; r1 for the packet's pointer
+    ∷ plain (load S16 R10 RAX 0) for blanks (slotCode (LdAbs S16) 0 (insn 0 0 0 12) 0)
+    ∷ plain (load S16 RDI RAX 12) for blanks (slotCode (LdAbs S16) 0 (insn 0 0 0 12) 0)
+    -- emit_ld_ind: without the register's part; added to the packet's pointer itself
+    ∷ blanks (op (alu MOV W64 R10 R11) ∷ op (load S8 R11 RAX 12) ∷ []) for blanks (slotCode (LdInd S8) 0 (insn 0 1 0 12) 0)
+    ∷ blanks (op (alu ADD W64 RDI R10) ∷ op (load S8 R10 RAX 12) ∷ []) for blanks (slotCode (LdInd S8) 0 (insn 0 1 0 12) 0)
+    -- emit_load_imm: 2147483648 in four bytes, which would be extended; -1 in eight
+    ∷ plain (aluImm MOV W64 RDI 0x80000000) for encodePlain (loadImm RDI 0x80000000)
+    ∷ plain (movabs RDI 0xffffffffffffffff) for encodePlain (loadImm RDI 0xffffffffffffffff)
+    -- emit_ld_dw_imm: the lower half alone; into src
+    ∷ plain (aluImm MOV W64 RDI 7) for blanks (slotCode LdDwImm 0 (insn 1 0 0 7) 0x100000007)
+    ∷ plain (aluImm MOV W64 RAX 7) for blanks (slotCode LdDwImm 0 (insn 1 0 0 7) 7)
+    -- emit_ld_reg: dst for the base; four bytes for two
+    ∷ plain (load S64 RDI RSI 4) for blanks (slotCode (LdReg S64) 0 (insn 1 2 4 0) 0)
+    ∷ plain (load S32 RSI RDI 4) for blanks (slotCode (LdReg S16) 0 (insn 1 2 4 0) 0)
+    -- emit_st_imm: imm for off; four bytes of a one-byte constant
+    ∷ plain (storeImm S32 RDI 9 4) for blanks (slotCode (StImm S32) 0 (insn 1 0 4 9) 0)
+    ∷ plain (storeImm S32 RDI 4 9) for blanks (slotCode (StImm S8) 0 (insn 1 0 4 9) 0)
+    -- emit_st_reg: src for the base; a byte store without its REX, which would store BH for RDI
+    ∷ plain (store S32 RDI RSI 4) for blanks (slotCode (StReg S32) 0 (insn 1 2 4 0) 0)
+    ∷ (0x88 ∷ 0x7e ∷ 0x04 ∷ []) for blanks (slotCode (StReg S8) 0 (insn 2 1 4 0) 0)
+    ∷ []
+
+pub handlers : Refuted handled
+unfolding rex modrm memory bare short regOf loadImm
+handlers = refuted handled refl
+
+-- what stands in a table at the entry that was put there
+entry : {l l′ : List ℕ} {k r x : ℕ} → Put l l′ k r (x ∷ []) → k < length l → getD l′ k 0 ≡ x
+entry {l} {k = k} {x = x} p h = ap (λ (t : List ℕ). getD t k 0) (p .is) ∙ getD-set-same l k x 0 h
+
+module _ {c c′ f f′ t t′ : List ℕ} {at j at′ j′ : ℕ} where
+  -- emit_ja: a target counted from its own slot, a field that is the jump's end, a jump that is not counted
+  pub ja : (slot : ℕ) (i : Insn) → Emits c c′ f f′ t t′ at j at′ j′ (slotCode Ja slot i 0) → j < length f → j < length t
+      → (getD t′ j 0 ≡ (slot + i .off) % 2 ^ 32 → ⊥) × ((getD f′ j 0 ≡ at′ → ⊥) × (j′ ≡ j → ⊥))
+  unfolding targetOf
+  ja slot i e g h =
+      (λ z. omega (arith, z, entry (e .targets) h), (λ z. omega (arith, z, entry (e .fields) g, e .wrote .next), λ z. omega (arith, z, e .targets .next)))
+
+  -- emit_jump: JMP32 compared at 64 bits, JGT taken as signed, JSET compared and not tested; the target and the field as above
+  pub jumps : (slot : ℕ) → Emits c c′ f f′ t t′ at j at′ j′ (jumpCode Jgt W32 Reg slot (insn 1 2 3 0))
+      → (Stored c c′ at at′ (blanks (op (alu CMP W64 RSI RDI) ∷ jump (jcc JA) (to 0) ∷ [])) → ⊥)
+      × (Stored c c′ at at′ (blanks (op (alu CMP W32 RSI RDI) ∷ jump (jcc JG) (to 0) ∷ [])) → ⊥)
+  unfolding rex modrm regOf
+  jumps slot e = (λ s. omega (arith, ap join (meant (e .wrote) s)), λ s. omega (arith, ap join (meant (e .wrote) s)))
+
+  pub jset : (slot : ℕ) → Emits c c′ f f′ t t′ at j at′ j′ (jumpCode Jset W64 Imm slot (insn 1 0 3 4)) → j < length f → j < length t
+      → (Stored c c′ at at′ (blanks (op (aluImm CMP W64 RDI 4) ∷ jump (jcc JNE) (to 0) ∷ [])) → ⊥)
+      × ((getD t′ j 0 ≡ (slot + 3) % 2 ^ 32 → ⊥) × (getD f′ j 0 ≡ at′ → ⊥))
+  unfolding rex modrm regOf targetOf
+  jset slot e g h = (
+    λ s. omega (arith, ap join (meant (e .wrote) s)),
+    (λ z. omega (arith, z, entry (e .targets) h), λ z. omega (arith, z, entry (e .fields) g, e .wrote .next)),
+  )
+
+  -- emit_call of a helper: its fourth argument left where it is, its call listed
+  pub helper : (slot : ℕ) → Emits c c′ f f′ t t′ at j at′ j′ (callCode slot (insn 0 0 0 3) 7)
+      → (Stored c c′ at at′ (blanks (op (aluImm MOV W64 RAX 7) ∷ callReg RAX ∷ [])) → ⊥) × (j′ ≡ j + 1 → ⊥)
+  unfolding rex modrm loadImm
+  helper slot e = (λ s. omega (arith, ap join (meant (e .wrote) s)), λ z. omega (arith, z, e .targets .next))
+
+  -- and within the program: a target by off, which is 0 here, a field that is the slot's end, registers that are not restored
+  pub local : (slot : ℕ) → Emits c c′ f f′ t t′ at j at′ j′ (callCode slot (insn 0 1 0 3) 0) → j < length f → j < length t
+      → (getD t′ j 0 ≡ (slot + 1) % 2 ^ 32 → ⊥) × ((getD f′ j 0 ≡ at′ - 4 → ⊥) × (at′ ≡ at + 12 → ⊥))
+  unfolding rex modrm targetOf
+  local slot e g h =
+      (λ z. omega (arith, z, entry (e .targets) h), (λ z. omega (arith, z, entry (e .fields) g, e .wrote .next), λ z. omega (arith, z, e .wrote .next)))

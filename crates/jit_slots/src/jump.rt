@@ -1,0 +1,227 @@
+// Classes JMP and JMP32.
+ghost use mathlib.Core.Path.{_≡_};
+ghost use Prim.Native.Nat.{_+_, _<_, _^_};
+ghost use Rattle.ebpf.specs.declared.kind.Kind.the-variants.{Ja};
+ghost use Rattle.x86.specs.Fill.{blanks};
+ghost use Rattle.x86.specs.Encode.{condNumber, encodePlain};
+ghost use Rattle.x86_emit.specs.Lent.{Wrote, Fits, FitAll};
+ghost use Rattle.jit.specs.Slots.{slotCode, condOf, compare, jumpCode, helperCall, localCall, callCode};
+ghost use Rattle.jit_slots.specs.JumpParts.{tests, callSaves, callRestores};
+ghost use Rattle.jit_recording.specs.Lent.{Emits, Room};
+use crate::load;
+use base::Position;
+use base::Slot;
+use base::Width;
+use ebpf::insn::Insn;
+use ebpf::kind::Condition;
+use ebpf::kind::Source;
+use jit_recording::emission;
+use jit_recording::emission::Emission;
+use jit_recording::register;
+use x86::CMP;
+use x86::GROUP1;
+use x86::GROUP1_CMP;
+use x86::GROUP3;
+use x86::GROUP3_TEST;
+use x86::JA;
+use x86::JAE;
+use x86::JB;
+use x86::JBE;
+use x86::JE;
+use x86::JG;
+use x86::JGE;
+use x86::JL;
+use x86::JLE;
+use x86::JNE;
+use x86::MOV;
+use x86::R9;
+use x86::R13;
+use x86::R14;
+use x86::R15;
+use x86::RAX;
+use x86::RBX;
+use x86::RCX;
+use x86::TEST;
+use x86_emit::alu;
+use x86_emit::jump;
+
+pub fn emit_ja(
+    code: &mut [u8],
+    fields: &mut [u32],
+    targets: &mut [u32],
+    e: Emission,
+    slot: Slot,
+    i: Insn,
+) -> Emission
+    requires { ⌜ Room code fields targets e (slotCode Ja (slot .number) i 0) ⌝ }
+    requires { ⌜ slot .number < 2 ^ 16 ⌝ }
+    ensures { λ r. ⌜ Emits code fields targets e r (slotCode Ja (slot .number) i 0) ⌝ }
+{
+    let target = emission::target_of(slot, i.off);
+    let next = jump::emit_jmp(code, e.at, 0);
+    emission::record_jump(fields, targets, next, e.jumps, target)
+}
+
+// The second byte of Jcc's opcode.
+fn condition_byte(condition: Condition) -> u8
+    ensures { λ r. ⌜ r ≡ 0x80 + condNumber (condOf condition) ⌝ }
+{
+    match condition {
+        Condition::Jeq => JE,
+        Condition::Jgt => JA,
+        Condition::Jge => JAE,
+        Condition::Jset => JNE,
+        Condition::Jne => JNE,
+        Condition::Jsgt => JG,
+        Condition::Jsge => JGE,
+        Condition::Jlt => JB,
+        Condition::Jle => JBE,
+        Condition::Jslt => JL,
+        Condition::Jsle => JLE,
+    }
+}
+
+// JSET tests, the others compare.
+fn is_test(condition: Condition) -> bool
+    ensures { λ r. ⌜ r ≡ tests condition ⌝ }
+{
+    match condition {
+        Condition::Jeq => false,
+        Condition::Jgt => false,
+        Condition::Jge => false,
+        Condition::Jset => true,
+        Condition::Jne => false,
+        Condition::Jsgt => false,
+        Condition::Jsge => false,
+        Condition::Jlt => false,
+        Condition::Jle => false,
+        Condition::Jslt => false,
+        Condition::Jsle => false,
+    }
+}
+
+fn emit_compare(
+    code: &mut [u8],
+    at: Position,
+    condition: Condition,
+    width: Width,
+    source: Source,
+    i: Insn,
+) -> Position
+    requires { ⌜ Fits code at × ((i .dst < 11) × (i .src < 11)) ⌝ }
+    ensures { λ r. ⌜ Wrote code at r (encodePlain (compare condition width source i)) ⌝ }
+{
+    let dst = register::map_register(i.dst);
+    let test = is_test(condition);
+    match source {
+        Source::Imm => {
+            if test {
+                return alu::emit_alu_imm32(code, at, width, GROUP3, GROUP3_TEST, dst, i.imm);
+            }
+            alu::emit_alu_imm32(code, at, width, GROUP1, GROUP1_CMP, dst, i.imm)
+        }
+        Source::Reg => {
+            let src = register::map_register(i.src);
+            if test {
+                return alu::emit_alu(code, at, width, TEST, src, dst);
+            }
+            alu::emit_alu(code, at, width, CMP, src, dst)
+        }
+    }
+}
+
+pub fn emit_jump(
+    code: &mut [u8],
+    fields: &mut [u32],
+    targets: &mut [u32],
+    e: Emission,
+    condition: Condition,
+    width: Width,
+    source: Source,
+    slot: Slot,
+    i: Insn,
+) -> Emission
+    requires { ⌜ Room code fields targets e (jumpCode condition width source (slot .number) i) ⌝ }
+    requires { ⌜ (i .dst < 11) × ((i .src < 11) × (slot .number < 2 ^ 16)) ⌝ }
+    ensures { λ r. ⌜ Emits code fields targets e r (jumpCode condition width source (slot .number) i) ⌝ }
+{
+    let target = emission::target_of(slot, i.off);
+    let compared = emit_compare(code, e.at, condition, width, source, i);
+    let next = jump::emit_jcc(code, compared, condition_byte(condition), 0);
+    emission::record_jump(fields, targets, next, e.jumps, target)
+}
+
+// RCX is kept free for shifts, so the fourth argument is copied to where the machine's calls have it.
+fn emit_helper_call(code: &mut [u8], at: Position, address: u64) -> Position
+    requires { ⌜ FitAll code at (helperCall address) ⌝ }
+    ensures { λ r. ⌜ Wrote code at r (blanks (helperCall address)) ⌝ }
+{
+    let copied = alu::emit_alu(code, at, Width::W64, MOV, R9, RCX);
+    let loaded = load::emit_load_imm(code, copied, RAX, address);
+    jump::emit_call_rax(code, loaded)
+}
+
+// r6 to r9 are the callee's to change: they are saved round the call.
+fn emit_saved_registers(code: &mut [u8], at: Position) -> Position
+    requires { ⌜ FitAll code at callSaves ⌝ }
+    ensures { λ r. ⌜ Wrote code at r (blanks callSaves) ⌝ }
+{
+    let a = alu::emit_push(code, at, RBX);
+    let b = alu::emit_push(code, a, R13);
+    let c = alu::emit_push(code, b, R14);
+    alu::emit_push(code, c, R15)
+}
+
+fn emit_restored_registers(code: &mut [u8], at: Position) -> Position
+    requires { ⌜ FitAll code at callRestores ⌝ }
+    ensures { λ r. ⌜ Wrote code at r (blanks callRestores) ⌝ }
+{
+    let a = alu::emit_pop(code, at, R15);
+    let b = alu::emit_pop(code, a, R14);
+    let c = alu::emit_pop(code, b, R13);
+    alu::emit_pop(code, c, RBX)
+}
+
+fn emit_local_call(
+    code: &mut [u8],
+    fields: &mut [u32],
+    targets: &mut [u32],
+    e: Emission,
+    target: u32,
+) -> Emission
+    requires { ⌜ Room code fields targets e (localCall target) ⌝ }
+    ensures { λ r. ⌜ Emits code fields targets e r (localCall target) ⌝ }
+{
+    let saved = emit_saved_registers(code, e.at);
+    let called = jump::emit_call(code, saved, 0);
+    let recorded = emission::record_jump(fields, targets, called, e.jumps, target);
+    let at = emit_restored_registers(code, recorded.at);
+    Emission {
+        at: at,
+        jumps: recorded.jumps,
+    }
+}
+
+// CALL: src 0 is a helper at the address `value`, src 1 a call within the program.
+pub fn emit_call(
+    code: &mut [u8],
+    fields: &mut [u32],
+    targets: &mut [u32],
+    e: Emission,
+    slot: Slot,
+    i: Insn,
+    value: u64,
+) -> Emission
+    requires { ⌜ Room code fields targets e (callCode (slot .number) i value) ⌝ }
+    requires { ⌜ slot .number < 2 ^ 16 ⌝ }
+    ensures { λ r. ⌜ Emits code fields targets e r (callCode (slot .number) i value) ⌝ }
+{
+    if i.src == 0 {
+        let at = emit_helper_call(code, e.at, value);
+        return Emission {
+            at: at,
+            jumps: e.jumps,
+        };
+    }
+    emit_local_call(code, fields, targets, e, emission::target_of(slot, i.imm))
+}

@@ -1,0 +1,8 @@
+-- What is lent, at one moment, of the parameters by their names (base/specs/Lent.antt).
+use denote.Ref.{now}
+use Rattle.base.specs.Lent.{Slice}
+use Rattle.jit_theorem.specs.Theorem.{Buffers}
+
+abbrev pub buffers : (code locations fields targets : Slice) → Buffers
+buffers code locations fields targets =
+    record { code = now code; locations = now locations; fields = now fields; targets = now targets }

@@ -1,0 +1,74 @@
+-- THE THEOREM: what is proved of `translate`, on one page, from the definitions alone:
+--
+--   translationOf   which code, which tables or which refusal belong to what is asked      crates/jit/specs/Translation.antt
+--   Translated      how the answer and what was lent hold an outcome                       crates/jit_translate/specs/Translated.antt
+--   Machine         the processor: what an instruction does, what a run is                 crates/x86_machine/specs/Machine.antt
+--   Demand3         reading, landing, staying, the stack pointer, over that processor      crates/jit_safety/specs/Demand3.antt
+--
+-- `Promise` says the three demands of one call. `Theorem` says that every call keeps it, and that it can always be kept, in one way only.
+-- proofs/Proved.antt proves `Theorem`; `ndakoleem_translate`, which a loader calls, has `Promise` in its contract and asks nothing.
+-- That `translate` ends, and touches only what it was lent, Rattle proves of every function.
+use mathlib.Core.Path.{_≡_}
+use mathlib.Core.List.{List}
+use Prim.Native.Nat.{ℕ, _+_}
+use lib.ListN.{take}
+use Rattle.jit.specs.declared.Refusal.{Refusal}
+use Rattle.jit.specs.Translation.{Inputs, slotsOf, no, translationOf}
+use Rattle.x86_machine.specs.Machine.{State, Input, divided, run}
+use Rattle.jit_safety.specs.Demand3.{Given, Begins, Demand3}
+use Rattle.jit_translate.specs.Translated.{Translated}
+use Rattle.jit_translate.specs.declared.translate.Answer.{Answer}
+use Rattle.jit_translate.specs.declared.translate.Answer.the-variants.{Accepted, Refused}
+
+-- What is lent, at one moment: the code buffer and the three tables.
+pub record Buffers : Type 0 where
+  pub code : List ℕ
+  pub locations : List ℕ
+  pub fields : List ℕ
+  pub targets : List ℕ
+
+-- DEMAND 1. Whatever is asked has an answer, one only: finished code, or one refusal, and then nothing that was lent is changed.
+-- (That there is one, and one only, is `answered` and `only` below.)
+abbrev pub RefusalChangesNothing : Inputs → (before after : Buffers) → Answer → Type 0
+RefusalChangesNothing x before after r = (q : Refusal) → r ≡ Refused q → (translationOf x ≡ no q) × (after ≡ before)
+
+-- DEMAND 2. The answer, the bytes and the tables are `translationOf`'s, at the head of what was lent; behind them all is as it was. This
+-- is `translate`'s own contract.
+abbrev pub Translates : Inputs → (before after : Buffers) → Answer → Type 0
+Translates x before after r =
+    Translated (translationOf x)
+    (before .code) (after .code) (before .locations) (after .locations) (before .fields) (after .fields) (before .targets) (after .targets) r
+
+-- DEMAND 3. With L bytes of code and J jumps accepted, those L bytes, the first n + 1 locations and the first J fields and targets
+--   read:  from the first byte, by Intel's rules, they are the instructions that demand 2 names, the last one a return;
+--   land:  each listed jump and call goes to the start of the slot that is meant, to the exit, or, where no slot begins by that number, to
+--          the first byte; every other one is the prologue's call, which goes behind the prologue, or a division's skip within its slot;
+--   stay:  no run, for all registers, flags and all that loads, pops and helpers give, leaves these instructions, and no division faults;
+--   stack: each return finds the stack pointer where its call left it, and the last one where the run began.
+-- The premises are in the statements: a memory fault ends a run, a return that does not go behind its call is followed no further, and
+-- the stack pointer is promised in runs that come to the epilogue by the prologue's jump alone.
+abbrev pub PageIsSafe : Inputs → (after : Buffers) → Answer → Type 0
+PageIsSafe x after r =
+    (L J : ℕ) → r ≡ Accepted L J
+    → Demand3 x (take L (after .code)) (take (slotsOf (x .filter .program) + 1) (after .locations)) (take J (after .fields)) (take J (after .targets))
+
+-- .. of which one thing by itself: no run of an accepted page raises #DE.
+abbrev pub NoDivisionFaults : (after : Buffers) → Answer → Type 0
+NoDivisionFaults after r = (L J : ℕ) → r ≡ Accepted L J → (us : List Input) (s : State) → Begins s → run (take L (after .code)) us s ≡ divided → ⊥
+
+pub record Promise (x : Inputs) (before after : Buffers) (r : Answer) : Type 0 where
+  pub refusal : RefusalChangesNothing x before after r
+  pub bytes : Translates x before after r
+  pub safe : PageIsSafe x after r
+  pub division : NoDivisionFaults after r
+
+-- THE THEOREM. Its one premise is `Given`: the program's bytes are below 2 ^ 8 and the helpers' addresses below 2 ^ 64, which Rattle says
+-- of every slice. Nothing else is asked: of the program, the flags, the helpers, the lengths or the contents of what is lent.
+pub record Theorem : Type 0 where
+  -- whatever `translate`'s contract admits keeps the promise
+  pub kept : (x : Inputs) → Given x → (before after : Buffers) (r : Answer) → Translates x before after r → Promise x before after r
+  -- all that can be asked has an answer that keeps it ..
+  pub answered : (x : Inputs) → Given x → (before : Buffers) → (r : Answer) × ((after : Buffers) × Promise x before after r)
+  -- .. and one only
+  pub only : (x : Inputs) (before after other : Buffers) (r s : Answer) → Promise x before after r → Promise x before other s
+      → (r ≡ s) × (after ≡ other)

@@ -1,0 +1,4 @@
+pub mod TranslatedLaws
+pub mod DecidedLaws
+pub mod PageLaws
+pub mod Useless

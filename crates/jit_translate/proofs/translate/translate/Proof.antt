@@ -1,0 +1,50 @@
+use Rattle.jit_translate.proofs.TranslatedLaws.{refuses}
+use Rattle.jit_translate.proofs.DecidedLaws.{good, refusal}
+use borrow.Author.Needs.{needs}
+use Rattle.jit_translate.proofs.translate.translate.Statement.{statement}
+use Rattle.jit_translate.proofs.translate.translate.Tie as tie
+
+decide-requires : tie.Need-decide-requires
+decide-requires c κs = search needs
+
+enum-known-refusal : tie.Need-enum-known-refusal
+enum-known-refusal c = search needs
+
+enum-told : tie.Need-enum-told
+enum-told c = search needs
+
+write-page-requires : tie.Need-write-page-requires
+write-page-requires c κs = good (c .before .before .before .before .before .before .decide .ensures) (c .before .before .before .before .enum-told .given .1)
+
+returns : tie.Need-returns
+returns c = refuses (refusal (c .before .before .before .decide .ensures) (c .before .refusal .given .1))
+
+same-length : tie.Need-same-length
+same-length c = search needs
+
+same-length-2 : tie.Need-same-length-2
+same-length-2 c = search needs
+
+same-length-3 : tie.Need-same-length-3
+same-length-3 c = search needs
+
+same-length-4 : tie.Need-same-length-4
+same-length-4 c = search needs
+
+returns-2 : tie.Need-returns-2
+returns-2 c = search needs
+
+pub translate-spec : {M : Type 1} → statement M
+translate-spec =
+    tie.close
+    (tie.spec
+    decide-requires
+    enum-known-refusal
+    enum-told
+    write-page-requires
+    returns
+    same-length
+    same-length-2
+    same-length-3
+    same-length-4
+    returns-2)

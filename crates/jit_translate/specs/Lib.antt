@@ -1,0 +1,4 @@
+pub mod Translated
+pub mod Lent
+pub mod Halves
+pub mod HalvesLent

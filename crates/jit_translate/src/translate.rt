@@ -1,0 +1,190 @@
+// The one function that a user calls: every program, pair of flags, helper lists and set of lent buffers gets finished code or one refusal.
+// It is `decide`, which writes nothing, and then `write_page`, which refuses nothing.
+ghost use mathlib.Core.Path.{_≡_};
+ghost use Prim.Native.Nat.{_≤_};
+ghost use Rattle.x86.specs.Code.{size};
+ghost use Rattle.jit.specs.Frame.{prologue};
+ghost use Rattle.jit.specs.Room.{longestPrologue};
+ghost use Rattle.jit.specs.Lent.{filterOf};
+ghost use Rattle.jit_judging.specs.declared.verdict.Verdict.the-variants.{Good};
+ghost use Rattle.jit_translate.specs.Translated.{Decided};
+ghost use Rattle.jit_translate.specs.Lent.{sized, inputs, asked, Translated};
+ghost use Rattle.jit_translate.specs.HalvesLent.{Begun, Closing, Ended};
+use base::Position;
+use base::Slot;
+use jit::Flags;
+use jit::Refusal;
+use jit_judging::judge;
+use jit_judging::sizes;
+use jit_judging::verdict::Verdict;
+use jit_recording::emission::Emission;
+
+pub enum Answer {
+    Accepted { length: usize, jumps: usize },
+    Refused(Refusal),
+}
+
+fn prologue_size(flags: Flags) -> usize
+    ensures { λ r. ⌜ (r ≡ size (prologue flags)) × (r ≤ longestPrologue) ⌝ }
+{
+    if flags.use_mbuff {
+        if flags.update_data_ptr {
+            return 49;
+        }
+        return 31;
+    }
+    34
+}
+
+// Whether the program is translated, and if not, why. The four numbers are the lengths of the code buffer and of the tables.
+pub fn decide(
+    prog: &[u8],
+    flags: Flags,
+    ids: &[u32],
+    addresses: &[u64],
+    page: usize,
+    locations: usize,
+    fields: usize,
+    targets: usize,
+) -> Verdict
+    ensures { λ r. ⌜ Decided (sized (filterOf prog ids addresses) flags page locations fields targets) r ⌝ }
+{
+    match sizes::sizes(
+        prog.len(),
+        page,
+        locations,
+        fields,
+        targets,
+        ids,
+        addresses.len(),
+    ) {
+        Verdict::Not(refusal) => Verdict::Not(refusal),
+        Verdict::Good => {
+            let start = Position {
+                offset: prologue_size(flags),
+            };
+            judge::judge(prog, ids, addresses, page, start)
+        }
+    }
+}
+
+// The prologue and the slots of a program that is accepted.
+fn write_begin(
+    prog: &[u8],
+    flags: Flags,
+    ids: &[u32],
+    addresses: &[u64],
+    code: &mut [u8],
+    locations: &mut [u32],
+    fields: &mut [u32],
+    targets: &mut [u32],
+) -> Emission
+    requires { ⌜ Decided (inputs prog flags ids addresses code locations fields targets) Good ⌝ }
+    ensures { λ r. ⌜ Begun (asked prog flags ids addresses code locations fields targets) code locations fields targets r ⌝ }
+{
+    let page = code.len();
+    let entered = jit_writing::frame::emit_prologue(code, fields, targets, flags);
+    jit_writing::write::write_slots(
+        prog,
+        ids,
+        addresses,
+        page,
+        entered.at,
+        code,
+        locations,
+        fields,
+        targets,
+    )
+}
+
+// The epilogue at `end`, location n, and the fields.
+fn write_end(
+    code: &mut [u8],
+    locations: &mut [u32],
+    fields: &[u32],
+    targets: &[u32],
+    n: Slot,
+    end: Position,
+    jumps: usize,
+)
+    requires { ⌜ Closing code locations fields targets n end jumps ⌝ }
+    ensures { λ _. ⌜ Ended code locations fields targets n end jumps ⌝ }
+{
+    jit_writing::frame::emit_epilogue(code, end);
+    let last = n.number;
+    locations[last] = 0;
+    jit_resolving::resolve::resolve_jumps(code, locations, n, fields, targets, end, jumps);
+}
+
+// The page and the tables of a program that is accepted.
+pub fn write_page(
+    prog: &[u8],
+    flags: Flags,
+    ids: &[u32],
+    addresses: &[u64],
+    code: &mut [u8],
+    locations: &mut [u32],
+    fields: &mut [u32],
+    targets: &mut [u32],
+) -> Answer
+    requires { ⌜ Decided (inputs prog flags ids addresses code locations fields targets) Good ⌝ }
+    ensures { λ r. ⌜ Translated (asked prog flags ids addresses code locations fields targets) code locations fields targets r ⌝ }
+{
+    let n = Slot {
+        number: prog.len() / 8,
+    };
+    let e = write_begin(
+        prog,
+        flags,
+        ids,
+        addresses,
+        code,
+        locations,
+        fields,
+        targets,
+    );
+    write_end(code, locations, fields, targets, n, e.at, e.jumps);
+    let length = e.at.offset + jit::EPILOGUE_SIZE;
+    Answer::Accepted {
+        length: length,
+        jumps: e.jumps,
+    }
+}
+
+// The answer and the contents at exit of what is lent are what `translationOf` gives on the contents at entry (specs/Translated.antt): accepted,
+// the code, locations, fields and targets at the head, everything behind as it was; refused, everything as it was.
+pub fn translate(
+    prog: &[u8],
+    flags: Flags,
+    ids: &[u32],
+    addresses: &[u64],
+    code: &mut [u8],
+    locations: &mut [u32],
+    fields: &mut [u32],
+    targets: &mut [u32],
+) -> Answer
+    ensures { λ r. ⌜ Translated (asked prog flags ids addresses code locations fields targets) code locations fields targets r ⌝ }
+{
+    match decide(
+        prog,
+        flags,
+        ids,
+        addresses,
+        code.len(),
+        locations.len(),
+        fields.len(),
+        targets.len(),
+    ) {
+        Verdict::Not(refusal) => Answer::Refused(refusal),
+        Verdict::Good => write_page(
+            prog,
+            flags,
+            ids,
+            addresses,
+            code,
+            locations,
+            fields,
+            targets,
+        ),
+    }
+}

@@ -1,0 +1,3 @@
+pub mod Sofar
+pub mod StepsLaws
+pub mod Entries

@@ -1,3 +1,0 @@
-pub mod Lengths
-pub mod Measures
-pub mod Useless

@@ -1,0 +1,2 @@
+pub mod ArgumentsLaws
+pub mod Useless

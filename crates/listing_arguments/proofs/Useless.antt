@@ -1,0 +1,41 @@
+-- Wrong answers that the contracts of this crate shut out, each on one word.
+use mathlib.Core.Path.{_≡_}
+use Prim.Native.Nat.{ℕ}
+use native.Mathlib.Omega.{arith}
+use Rattle.bytes.specs.Bytes.{indexOf, indexAfter}
+use Rattle.text.specs.Text.{ascii}
+use Rattle.listing_arguments.specs.declared.Number.the-variants.{Is}
+use Rattle.listing_arguments.specs.declared.Helper.the-variants.{Listed}
+use Rattle.listing_arguments.specs.declared.Word.the-variants.{File, Help}
+use Rattle.listing_arguments.specs.Arguments.{wordOf, digitOf, grown, digits, numberOf, addressOf, helperOf}
+
+-- word_of: an option that is not known taken for a file; an option known by its first letters
+pub option-a-file : wordOf (ascii "--hlep") ≡ File → ⊥
+unfolding wordOf
+option-a-file e = let z : _≡_ {A = ℕ} 0 1 = cc in omega arith
+
+pub by-first-letters : wordOf (ascii "--helpless") ≡ Help → ⊥
+unfolding wordOf
+by-first-letters e = let z : _≡_ {A = ℕ} 0 1 = cc in omega arith
+
+-- number_of: hexadecimal read as decimal; a number that wraps; no digit at all, as 0
+pub hexadecimal-as-decimal : numberOf (ascii "0x10") ≡ Is 10 → ⊥
+unfolding numberOf digits grown digitOf
+hexadecimal-as-decimal e = let z : _≡_ {A = ℕ} 16 10 = cc in omega (arith, z)
+
+pub wrapped : numberOf (ascii "18446744073709551616") ≡ Is 0 → ⊥
+unfolding numberOf digits grown digitOf
+wrapped e = let z : _≡_ {A = ℕ} 0 1 = cc in omega arith
+
+pub nothing-as-zero : numberOf (ascii "0x") ≡ Is 0 → ⊥
+unfolding numberOf digits grown digitOf
+nothing-as-zero e = let z : _≡_ {A = ℕ} 0 1 = cc in omega arith
+
+-- helper_of: id and address exchanged; an id that is cut to 32 bits
+pub exchanged : helperOf (ascii "6=7") ≡ Listed 7 6 → ⊥
+unfolding helperOf addressOf numberOf digits grown digitOf indexOf indexAfter
+exchanged e = let z : _≡_ {A = ℕ} 6 7 = cc in omega (arith, z)
+
+pub id-cut : helperOf (ascii "4294967302") ≡ Listed 6 0x7f0000000000 → ⊥
+unfolding helperOf addressOf numberOf digits grown digitOf indexOf indexAfter
+id-cut e = let z : _≡_ {A = ℕ} 0 1 = cc in omega arith

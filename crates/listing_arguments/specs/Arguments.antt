@@ -1,0 +1,67 @@
+-- The words that a listing is asked for with: which option a word is, a number, a helper.
+use mathlib.Core.Bool.{Bool, true, false, _&&_}
+use mathlib.Core.List.{List, [], _∷_}
+use Prim.Native.Nat.{ℕ, _+_, _*_, _-_, _^_}
+use lib.Dec.{ltb, leb, eqb}
+use lib.ListN.{length, getD, take, drop}
+use Rattle.bytes.specs.Bytes.{indexOf}
+use Rattle.base.specs.Pick.{pick}
+use Rattle.text.specs.Text.{ascii}
+use Rattle.listing_arguments.specs.declared.Number.{Number}
+use Rattle.listing_arguments.specs.declared.Number.the-variants.{Is, Not}
+use Rattle.listing_arguments.specs.declared.Helper.{Helper}
+use Rattle.listing_arguments.specs.declared.Helper.the-variants.{Listed, Unclear}
+use Rattle.listing_arguments.specs.declared.Word.{Word}
+use Rattle.listing_arguments.specs.declared.Word.the-variants.{Mbuff, UpdateDataPtr, PageSize, HelperNext, Help, File, Unknown}
+
+-- whether two texts are the same
+abbrev pub equal : List ℕ → List ℕ → Bool
+equal [] [] = true
+equal [] (b ∷ ys) = false
+equal (a ∷ xs) [] = false
+equal (a ∷ xs) (b ∷ ys) = eqb a b && equal xs ys
+
+-- an option by its name; else a file, unless it is empty or begins with `-`
+unfoldable pub wordOf : List ℕ → Word
+wordOf w =
+    pick (equal w (ascii "--mbuff")) Mbuff
+    (pick (equal w (ascii "--update-data-ptr")) UpdateDataPtr
+    (pick (equal w (ascii "--page")) PageSize
+    (pick (equal w (ascii "--helper")) HelperNext (pick (equal w (ascii "--help")) Help (pick (eqb (getD w 0 0x2d) 0x2d) Unknown File)))))
+
+-- what a character counts as a digit, `0` to `9`, `A` to `F` and `a` to `f`; 16 where it is none
+unfoldable pub digitOf : ℕ → ℕ
+digitOf c =
+    pick (ltb c 0x30) 16
+    (pick (leb c 0x39) (c - 0x30)
+    (pick (ltb c 0x41) 16 (pick (leb c 0x46) (c - 0x41 + 10) (pick (ltb c 0x61) 16 (pick (leb c 0x66) (c - 0x61 + 10) 16)))))
+
+-- a number with one digit more, where the character is one and the number stays below 2^64
+unfoldable pub grown : ℕ → ℕ → ℕ → Number
+grown b n d = pick (ltb d b) (pick (ltb (n * b + d) (2 ^ 64)) (Is (n * b + d)) Not) Not
+
+abbrev pub readOn : ℕ → Number → List ℕ → Number
+readOn b m [] = m
+readOn b Not (c ∷ cs) = Not
+readOn b (Is n) (c ∷ cs) = readOn b (grown b n (digitOf c)) cs
+
+-- at least one digit
+unfoldable pub digits : ℕ → List ℕ → Number
+digits b [] = Not
+digits b (c ∷ cs) = readOn b (Is 0) (c ∷ cs)
+
+-- decimal, or hexadecimal behind `0x`
+unfoldable pub numberOf : List ℕ → Number
+numberOf w = pick (eqb (getD w 0 0) 0x30 && eqb (getD w 1 0) 0x78) (digits 16 (drop 2 w)) (digits 10 w)
+
+abbrev pub helper : Number → Number → Helper
+helper (Is i) (Is a) = pick (ltb i (2 ^ 32)) (Listed i a) Unclear
+helper (Is i) Not = Unclear
+helper Not a = Unclear
+
+-- the address behind the first `=`; where there is none, one that is loaded as a Linux program's functions are, by ten bytes
+unfoldable pub addressOf : List ℕ → ℕ → Number
+addressOf w at = pick (ltb at (length w)) (numberOf (drop (at + 1) w)) (Is 0x7f0000000000)
+
+unfoldable pub helperOf : List ℕ → Helper
+helperOf w = helper (numberOf (take (indexOf 0x3d w) w)) (addressOf w (indexOf 0x3d w))

@@ -1,0 +1,166 @@
+// The words that a listing is asked for with, read: which option a word is, a number, a helper. What a program does with them stands in
+// program_listing.
+ghost use mathlib.Core.Path.{_≡_};
+ghost use Prim.Native.Nat.{_≤_, _<_};
+ghost use Rattle.listing_arguments.specs.Arguments.{equal, wordOf, digitOf, numberOf, addressOf, helperOf};
+ghost use Rattle.listing_arguments.specs.Arguments.{digits as Arguments·digits};
+ghost use Rattle.listing_arguments.specs.Arguments.{grown as Arguments·grown};
+
+pub enum Word {
+    Mbuff,
+    UpdateDataPtr,
+    // The page's size is the next word.
+    PageSize,
+    // A helper is the next word.
+    HelperNext,
+    Help,
+    File,
+    Unknown,
+}
+
+// A number, or a word that is none.
+pub enum Number {
+    Is(u64),
+    Not,
+}
+
+// A helper's id and address, or a word that is none.
+pub enum Helper {
+    Listed(u32, u64),
+    Unclear,
+}
+
+// Where a helper is that no address is said of: a page has as many bytes as with one of a Linux program's own functions.
+pub const SOME_ADDRESS: u64 = 0x7f0000000000;
+
+fn is(word: &[u8], name: &[u8]) -> bool
+    ensures { λ r. ⌜ r ≡ equal (now (word .entry)) (now (name .entry)) ⌝ }
+{
+    check::same(word, name)
+}
+
+pub fn word_of(word: &[u8]) -> Word
+    ensures { λ r. ⌜ r ≡ wordOf (now (word .entry)) ⌝ }
+{
+    if is(word, b"--mbuff") {
+        return Word::Mbuff;
+    }
+    if is(word, b"--update-data-ptr") {
+        return Word::UpdateDataPtr;
+    }
+    if is(word, b"--page") {
+        return Word::PageSize;
+    }
+    if is(word, b"--helper") {
+        return Word::HelperNext;
+    }
+    if is(word, b"--help") {
+        return Word::Help;
+    }
+    if word.len() == 0 {
+        return Word::Unknown;
+    }
+    if word[0] == b'-' {
+        return Word::Unknown;
+    }
+    Word::File
+}
+
+fn digit_of(c: u8) -> u64
+    ensures { λ r. ⌜ (r ≡ digitOf c) × (r ≤ 16) ⌝ }
+{
+    if c < b'0' {
+        return 16;
+    }
+    if c <= b'9' {
+        return (c - b'0') as u64;
+    }
+    if c < b'A' {
+        return 16;
+    }
+    if c <= b'F' {
+        return (c - b'A') as u64 + 10;
+    }
+    if c < b'a' {
+        return 16;
+    }
+    if c <= b'f' {
+        return (c - b'a') as u64 + 10;
+    }
+    16
+}
+
+fn grown(base: u64, n: u64, digit: u64) -> Number
+    requires { ⌜ (0 < base) × (digit ≤ 16) ⌝ }
+    ensures { λ r. ⌜ r ≡ Arguments·grown base n digit ⌝ }
+{
+    if base <= digit {
+        return Number::Not;
+    }
+    if (u64::MAX - digit) / base < n {
+        return Number::Not;
+    }
+    Number::Is(n * base + digit)
+}
+
+fn digits(base: u64, word: &[u8]) -> Number
+    requires { ⌜ 0 < base ⌝ }
+    ensures { λ r. ⌜ r ≡ Arguments·digits base (now (word .entry)) ⌝ }
+{
+    if word.len() == 0 {
+        return Number::Not;
+    }
+    let mut n = 0;
+    let mut i = 0;
+    while i < word.len() {
+        let Number::Is(more) = grown(base, n, digit_of(word[i])) else {
+            return Number::Not;
+        };
+        n = more;
+        i += 1;
+    }
+    Number::Is(n)
+}
+
+// A number in decimal or, behind 0x, in hexadecimal.
+pub fn number_of(word: &[u8]) -> Number
+    ensures { λ r. ⌜ r ≡ numberOf (now (word .entry)) ⌝ }
+{
+    if word.len() < 2 {
+        return digits(10, word);
+    }
+    if word[0] != b'0' {
+        return digits(10, word);
+    }
+    if word[1] != b'x' {
+        return digits(10, word);
+    }
+    digits(16, &word[2..])
+}
+
+fn address_of(word: &[u8], at: usize) -> Number
+    ensures { λ r. ⌜ r ≡ addressOf (now (word .entry)) at ⌝ }
+{
+    if word.len() <= at {
+        return Number::Is(SOME_ADDRESS);
+    }
+    let behind = at + 1;
+    number_of(&word[behind..])
+}
+
+// A helper, as ID or ID=ADDRESS.
+pub fn helper_of(word: &[u8]) -> Helper
+    ensures { λ r. ⌜ r ≡ helperOf (now (word .entry)) ⌝ }
+{
+    let at = bytes::scan::find(word, 0, word.len(), b'=');
+    let Number::Is(id) = number_of(&word[..at]) else {
+        return Helper::Unclear;
+    };
+    let Number::Is(address) = address_of(word, at) else {
+        return Helper::Unclear;
+    };
+    if 0xffff_ffff < id {
+        return Helper::Unclear;
+    }
+    Helper::Listed(id as u32, address)
+}

@@ -1,3 +1,0 @@
-pub mod Again
-pub mod Place
-pub mod Held

@@ -1,1 +1,0 @@
-// What a page that `translate` accepted does when it is read and run. Theorems only (specs/).

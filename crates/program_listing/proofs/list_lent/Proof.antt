@@ -1,0 +1,38 @@
+use native.Mathlib.Omega.{arith}
+use lib.ListN.{length-take}
+use borrow.Author.Needs.{needs}
+use Rattle.program_listing.proofs.list_lent.Statement.{statement}
+use Rattle.program_listing.proofs.list_lent.Tie as tie
+
+array-borrow-prefix-page : tie.Need-array-borrow-prefix-page
+array-borrow-prefix-page c = search needs
+
+slice-aggregate-list-filter : tie.Need-slice-aggregate-list-filter
+slice-aggregate-list-filter c = simp length-take (omega arith)
+
+slice-aggregate-list-filter-2 : tie.Need-slice-aggregate-list-filter-2
+slice-aggregate-list-filter-2 c = search needs
+
+slice-aggregate-list-filter-3 : tie.Need-slice-aggregate-list-filter-3
+slice-aggregate-list-filter-3 c = search needs
+
+slice-aggregate-list-filter-4 : tie.Need-slice-aggregate-list-filter-4
+slice-aggregate-list-filter-4 c = search needs
+
+list-filter-requires : tie.Need-list-filter-requires
+list-filter-requires c κs = search needs
+
+returns : tie.Need-returns
+returns c = search needs
+
+pub list-lent-spec : {M : Type 1} → statement M
+list-lent-spec =
+    tie.close
+    (tie.spec
+    array-borrow-prefix-page
+    slice-aggregate-list-filter
+    slice-aggregate-list-filter-2
+    slice-aggregate-list-filter-3
+    slice-aggregate-list-filter-4
+    list-filter-requires
+    returns)

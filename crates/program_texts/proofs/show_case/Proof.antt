@@ -1,0 +1,90 @@
+use native.Mathlib.Omega.{arith}
+use lib.ListN.{length-take}
+use borrow.Author.Needs.{needs}
+use Rattle.program_texts.proofs.show_case.Statement.{statement}
+use Rattle.program_texts.proofs.show_case.Tie as tie
+
+least-requires : tie.Need-least-requires
+least-requires c κs = search needs
+
+least-requires-2 : tie.Need-least-requires-2
+least-requires-2 c κs = search needs
+
+least-requires-3 : tie.Need-least-requires-3
+least-requires-3 c κs = search needs
+
+least-requires-4 : tie.Need-least-requires-4
+least-requires-4 c κs = search needs
+
+sub-list-filter : tie.Need-sub-list-filter
+sub-list-filter c = search needs
+
+part-list-filter-start : tie.Need-part-list-filter-start
+part-list-filter-start c = search needs
+
+part-list-filter-end : tie.Need-part-list-filter-end
+part-list-filter-end c = search needs
+
+slice-aggregate-list-filter : tie.Need-slice-aggregate-list-filter
+slice-aggregate-list-filter c = simp length-take (omega arith)
+
+slice-aggregate-list-filter-2 : tie.Need-slice-aggregate-list-filter-2
+slice-aggregate-list-filter-2 c = simp length-take (omega arith)
+
+array-borrow-prefix-page : tie.Need-array-borrow-prefix-page
+array-borrow-prefix-page c = search needs
+
+slice-aggregate-list-filter-3 : tie.Need-slice-aggregate-list-filter-3
+slice-aggregate-list-filter-3 c = simp length-take (omega arith)
+
+array-borrow-prefix-locations : tie.Need-array-borrow-prefix-locations
+array-borrow-prefix-locations c = search needs
+
+slice-aggregate-list-filter-4 : tie.Need-slice-aggregate-list-filter-4
+slice-aggregate-list-filter-4 c = simp length-take (omega arith)
+
+array-borrow-prefix-fields : tie.Need-array-borrow-prefix-fields
+array-borrow-prefix-fields c = search needs
+
+slice-aggregate-list-filter-5 : tie.Need-slice-aggregate-list-filter-5
+slice-aggregate-list-filter-5 c = simp length-take (omega arith)
+
+array-borrow-prefix-targets : tie.Need-array-borrow-prefix-targets
+array-borrow-prefix-targets c = search needs
+
+slice-aggregate-list-filter-6 : tie.Need-slice-aggregate-list-filter-6
+slice-aggregate-list-filter-6 c = simp length-take (omega arith)
+
+list-filter-requires : tie.Need-list-filter-requires
+list-filter-requires c κs = search needs
+
+show-answer-requires : tie.Need-show-answer-requires
+show-answer-requires c κs = search needs
+
+returns : tie.Need-returns
+returns c = search needs
+
+pub show-case-spec : {M : Type 1} → statement M
+show-case-spec =
+    tie.close
+    (tie.spec
+    least-requires
+    least-requires-2
+    least-requires-3
+    least-requires-4
+    sub-list-filter
+    part-list-filter-start
+    part-list-filter-end
+    slice-aggregate-list-filter
+    slice-aggregate-list-filter-2
+    array-borrow-prefix-page
+    slice-aggregate-list-filter-3
+    array-borrow-prefix-locations
+    slice-aggregate-list-filter-4
+    array-borrow-prefix-fields
+    slice-aggregate-list-filter-5
+    array-borrow-prefix-targets
+    slice-aggregate-list-filter-6
+    list-filter-requires
+    show-answer-requires
+    returns)

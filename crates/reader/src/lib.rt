@@ -1,4 +1,0 @@
-// The instruction reader: bytes of a page taken apart into instructions, as the definition in crates/x86/specs/Decode.antt says. Here
-// are the opcodes; what stands around them is read by `encoding` and `forms`.
-pub mod decode;
-pub mod groups;

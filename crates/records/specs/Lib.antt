@@ -1,5 +1,0 @@
-pub mod Limits
-pub mod Stored
-pub mod Answers
-pub mod Cases
-pub mod Useless

@@ -1,0 +1,43 @@
+use Rattle.text.proofs.SaysLaws.{same}
+use Rattle.refusals_text.specs.Sentences.{reasonOf}
+use borrow.Author.Tests.{lt-ltb, le-ltb}
+use borrow.Author.Needs.{needs}
+use Rattle.refusals_text.proofs.put_reason.Statement.{statement}
+use Rattle.refusals_text.proofs.put_reason.Tie as tie
+
+put-size-reason-requires : tie.Need-put-size-reason-requires
+put-size-reason-requires c κs = search needs
+
+same-length : tie.Need-same-length
+same-length c = search needs
+
+returns : tie.Need-returns
+unfolding reasonOf
+returns c = same (c .before .before .put-size-reason .ensures) (rw (lt-ltb _ _ (c .before .before .before .before .if1 .taken)))
+
+fields-at-requires : tie.Need-fields-at-requires
+fields-at-requires c κs = search needs
+
+put-slot-reason-requires : tie.Need-put-slot-reason-requires
+put-slot-reason-requires c κs = search needs
+
+same-length-2 : tie.Need-same-length-2
+same-length-2 c = search needs
+
+returns-2 : tie.Need-returns-2
+unfolding reasonOf
+returns-2 c =
+    same (c .before .before .put-slot-reason .ensures)
+    (let fields = c .before .before .before .before in rw (le-ltb _ _ (fields .before .if1 .left), fields .fields-at .ensures))
+
+pub put-reason-spec : {M : Type 1} → statement M
+put-reason-spec =
+    tie.close
+    (tie.spec
+    put-size-reason-requires
+    same-length
+    returns
+    fields-at-requires
+    put-slot-reason-requires
+    same-length-2
+    returns-2)

@@ -1,0 +1,4 @@
+pub mod SaysLaws
+pub mod NumeralLaws
+pub mod FormLaws
+pub mod Wrong

@@ -1,0 +1,17 @@
+use Rattle.text.specs.Numerals.{hex}
+use borrow.Author.Needs.{needs}
+use Rattle.text.proofs.number.put_hex.Statement.{statement}
+use Rattle.text.proofs.number.put_hex.Tie as tie
+
+put-numeral-requires : tie.Need-put-numeral-requires
+put-numeral-requires c κs = search needs
+
+same-length : tie.Need-same-length
+same-length c = search needs
+
+returns : tie.Need-returns
+unfolding hex
+returns c = c .before .before .put-numeral .ensures
+
+pub put-hex-spec : {M : Type 1} → statement M
+put-hex-spec = tie.close (tie.spec put-numeral-requires same-length returns)

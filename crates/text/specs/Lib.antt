@@ -1,0 +1,4 @@
+pub mod Text
+pub mod Numerals
+pub mod Forms
+pub mod Lent

@@ -1,2 +1,0 @@
-// The one function that a user calls, over the layers below: the verdict, the frame and the slots, the jumps.
-pub mod translate;

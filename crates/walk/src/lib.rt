@@ -1,2 +1,0 @@
-// What both passes over the slots share: one slot, read and judged (src/step.rt), and what holds between two slots (specs/Sofar.antt).
-pub mod step;

@@ -1,3 +1,0 @@
-pub mod Text
-pub mod Numerals
-pub mod Forms

@@ -1,0 +1,7 @@
+pub mod RoundTrip
+pub mod Lengths
+pub mod Displacement
+pub mod FillLaws
+pub mod CodeLaws
+pub mod ReadsLaws
+pub mod WellFormed

@@ -1,0 +1,3 @@
+pub mod Useless
+pub mod WroteLaws
+pub mod InstructionWords

@@ -1,0 +1,3 @@
+pub mod Wrote
+pub mod Addresses
+pub mod Lent

@@ -1,0 +1,3 @@
+pub mod Unknown
+pub mod Takes
+pub mod Useless

@@ -1,0 +1,3 @@
+pub mod Opcodes
+pub mod Onward
+pub mod Lent

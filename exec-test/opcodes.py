@@ -1,0 +1,201 @@
+"""Runs each opcode that the translator accepts on boundary values, in the page, in the interpreter of RFC 9669 and in the Linux kernel.
+`exec-test/opcodes` starts it.
+
+Every program sets r0 to r9, has one instruction, and folds all registers into r0, so that an instruction that changes more than its
+destination is seen too. Left out are what filters run already: calls, EXIT, and the loads from classic BPF. The page has to give what the
+interpreter gives with the differences of EXPECTED; without them the interpreter has to part from the page in these instructions and no
+others, and to agree with the kernel in all. Prints a line for each kind of instruction; the last line is 'N passed, M failed'.
+"""
+
+import os
+import random
+import struct
+import sys
+
+HERE = os.path.dirname(os.path.abspath(__file__))
+sys.path.insert(0, HERE)
+
+import kernel
+from interpreter import Fault, Memory, Run
+from loader import pages
+
+STACK_TOP = 0x70000000
+PACKET = bytes(64)
+MUL_64, ADD_64_X, MOV_64, EXIT, WIDE, JA = 0x27, 0x0F, 0xB7, 0x95, 0x18, 0x05
+NAMES = ["ADD", "SUB", "MUL", "DIV", "OR", "AND", "LSH", "RSH", "NEG", "MOD", "XOR", "MOV", "ARSH"]
+CONDITIONS = {1: "JEQ", 2: "JGT", 3: "JGE", 4: "JSET", 5: "JNE", 6: "JSGT", 7: "JSGE", 10: "JLT", 11: "JLE", 12: "JSLT", 13: "JSLE"}
+NEG, MOV = 8, 11
+EDGES = [0, 1, 0x80, 0xFFFF, 0x7FFFFFFF, 0x80000000, 0x100000000, 0x7FFFFFFFFFFFFFFF, 0x8000000000000001, 0xFFFFFFFFFFFFFFFF]
+CONSTANTS = [0, 1, 31, 64, 255, 0x7FFFFFFF, -0x80000000, -1]
+
+# The instructions in which the page parts from the RFC: entries of docs/DIFFERENCES.md.
+EXPECTED = {"MOV32 X": "A1", "MOD32 K": "A2", "MOD32 X": "A3", "DIV32 K signed": "A4", "DIV32 X signed": "A4", "DIV64 K signed": "A4",
+            "DIV64 X signed": "A4", "MOD32 K signed": "A5", "MOD32 X signed": "A5", "MOD64 K signed": "A5", "MOD64 X signed": "A5",
+            "MOV32 X from 8": "A6", "MOV32 X from 16": "A6", "MOV64 X from 8": "A6", "MOV64 X from 16": "A6", "MOV64 X from 32": "A6",
+            "LE 16": "A8", "LE 32": "A8"}
+DIFFERENCES = sorted(set(EXPECTED.values()))
+
+rng = random.Random(9669)
+
+
+def slot(opcode, dst=0, src=0, off=0, imm=0):
+    return struct.pack("<BBhi", opcode, src << 4 | dst, off, imm)
+
+
+def wide(dst, value):
+    low, high = struct.unpack("<ii", struct.pack("<Q", value))
+    return slot(WIDE, dst, imm=low) + slot(0, imm=high)
+
+
+def word():
+    return rng.choice([rng.choice(EDGES), rng.getrandbits(64), rng.getrandbits(32)])
+
+
+class Case:
+    """One instruction (or a few that belong together) between what sets the registers and what folds them; list.txt's fields."""
+
+    helpers, page, form = (), 4096, "mbuff"
+
+    def __init__(self, kind, middle, **values):
+        self.kind = kind
+        registers = [values.get("r%d" % r, word()) for r in range(10)]
+        self.program = b"".join(wide(r, v) for r, v in enumerate(registers)) + middle
+        self.program += b"".join(slot(MUL_64, 0, imm=31) + slot(ADD_64_X, 0, r) for r in range(1, 10)) + slot(EXIT)
+
+    def flags(self):
+        return 1
+
+    def bytecode(self):
+        return self.program
+
+
+def by_register(kind, opcode, off=0):
+    """Boundary values against each other, then registers: each with itself and with three others."""
+    for a in EDGES:
+        for b in EDGES:
+            dst, src = rng.sample(range(10), 2)
+            yield Case(kind, slot(opcode, dst, src, off), **{"r%d" % dst: a, "r%d" % src: b})
+    for dst in range(10):
+        for src in (dst, *rng.sample([r for r in range(10) if r != dst], 3)):
+            yield Case(kind, slot(opcode, dst, src, off))
+
+
+def by_constant(kind, opcode, off=0, constants=CONSTANTS):
+    for imm in constants:
+        for a in EDGES:
+            dst = rng.randrange(10)
+            yield Case(kind, slot(opcode, dst, 0, off, imm), **{"r%d" % dst: a})
+    for dst in range(10):
+        yield Case(kind, slot(opcode, dst, 0, off, rng.choice(constants)))
+
+
+def arithmetic():
+    for bits, group in ((32, 4), (64, 7)):
+        for code, name in enumerate(NAMES):
+            for source, form in ((0, by_constant), (8, by_register)):
+                kind, opcode = "%s%d %s" % (name, bits, "X" if source else "K"), code << 4 | source | group
+                if code != NEG:
+                    yield from form(kind, opcode)
+                elif not source:
+                    yield from by_constant(kind, opcode, constants=[0])
+                if name in ("DIV", "MOD"):
+                    yield from form(kind + " signed", opcode, 1)
+            for width in (8, 16, 32)[:2 if bits == 32 else 3] if code == MOV else ():
+                yield from by_register("MOV%d X from %d" % (bits, width), MOV << 4 | 8 | group, width)
+    for opcode, name in ((0xD4, "LE"), (0xDC, "BE")):
+        for width in (16, 32, 64):
+            yield from by_constant("%s %d" % (name, width), opcode, constants=[width])
+
+
+def jumps():
+    """A jump that is taken skips an addition."""
+    mark = slot(0x07, 9, imm=1)
+    for bits, group in ((64, 5), (32, 6)):
+        for code, name in CONDITIONS.items():
+            for source, form in ((0, by_constant), (8, by_register)):
+                for case in form("%s%s %s" % (name, "" if bits == 64 else "32", "X" if source else "K"), code << 4 | source | group, 1):
+                    case.program = case.program[:168] + mark + case.program[168:]
+                    yield case
+    for value in (0, 1):  # another jump leads to the addition, since the kernel takes no program with a slot that cannot be reached
+        yield Case("JA", slot(0x15, 8, off=1) + slot(JA, off=1) + mark, r8=value)
+
+
+def accesses():
+    """On the stack, whose eight bytes are set first. r9 takes the address of the place, with room for every displacement."""
+    for size, name in ((0, "W"), (8, "H"), (16, "B"), (24, "DW")):
+        for base in range(1, 10):
+            for off in (0, 1, 127, 128, -1, -128, -129, 300):
+                at = slot(0xBF, base, 10) + slot(0x07, base, imm=-400 - off) + slot(0x7A, base, off=off, imm=-1)
+                clear = slot(MOV_64, base)
+                value = rng.choice([r for r in range(10) if r != base])
+                load = slot(0x79, value, base, off)
+                yield Case("LDX " + name, at + slot(0x7B, base, value, off) + slot(0x61 | size, value, base, off) + clear)
+                yield Case("ST " + name, at + slot(0x62 | size, base, off=off, imm=rng.choice(CONSTANTS)) + load + clear)
+                yield Case("STX " + name, at + slot(0x63 | size, base, value, off) + load + clear)
+
+
+def interpreted(case, differences=()):
+    try:
+        return Run(case.program, Memory([]), STACK_TOP, {}, (0, 0), differences).result(0)
+    except Fault as why:
+        return str(why)
+
+
+def in_kernel(case):
+    """The kernel's verdict, or None: its verifier takes no division by the constant 0 and no shift by a constant that is too large."""
+    try:
+        return kernel.verdicts(case.program, False, [PACKET])[0] if kernel.is_allowed() else None
+    except kernel.Refused as why:
+        if "div by zero" in str(why) or "invalid shift" in str(why):
+            return None
+        raise
+
+
+class Kind:
+    """What came of all cases of one kind."""
+
+    def __init__(self, name):
+        self.name, self.cases, self.wrong, self.parted, self.asked, self.unlike_kernel = name, 0, 0, 0, 0, 0
+
+    def add(self, case, page):
+        ours = page.verdicts[0] if page.number == 0 else page.answer()
+        by_rfc = interpreted(case)
+        self.cases += 1
+        self.wrong += ours != interpreted(case, DIFFERENCES)
+        self.parted += ours != by_rfc
+        theirs = in_kernel(case)
+        self.asked += theirs is not None
+        self.unlike_kernel += theirs is not None and theirs != by_rfc % 2**32
+
+    def problems(self):
+        entry = EXPECTED.get(self.name)
+        if self.wrong:
+            yield "the page differs in %d cases" % self.wrong
+        if self.parted and not entry:
+            yield "the page parts from RFC 9669 in %d cases, and no entry is named" % self.parted
+        if entry and not self.parted:
+            yield "%s does not show" % entry
+        if self.unlike_kernel:
+            yield "the kernel differs from the interpreter in %d cases" % self.unlike_kernel
+
+
+def main():
+    cases = [case for part in (arithmetic, jumps, accesses) for case in part()]
+    print("exec-test: %d programs" % len(cases), file=sys.stderr, flush=True)
+    kinds = {}
+    for case, page in zip(cases, pages(cases, [PACKET])):
+        kinds.setdefault(case.kind, Kind(case.kind)).add(case, page)
+    failed = 0
+    for kind in kinds.values():
+        problems = list(kind.problems())
+        failed += bool(problems)
+        print("%-16s %4d programs, %4d in the kernel%s" % (kind.name, kind.cases, kind.asked, ", %s in %d" % (
+            EXPECTED[kind.name], kind.parted) if kind.name in EXPECTED else ""))
+        for problem in problems:
+            print("FAILED %s: %s" % (kind.name, problem))
+    print("%d programs, %d in the kernel" % (len(cases), sum(kind.asked for kind in kinds.values())))
+    print("%d passed, %d failed" % (len(kinds) - failed, failed))
+    sys.exit(1 if failed else 0)
+
+
+main()
