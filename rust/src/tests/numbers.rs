@@ -35,13 +35,19 @@ fn numbers(text: &str) -> Numbers {
     known
 }
 
-/// The numbers of a crate's definitions, all files of its specs/.
-fn definitions(of_crate: &str) -> Numbers {
-    // Tests run in the crate's folder.
-    let folder = format!("../crates/{of_crate}/specs");
-    let files = read_dir(&folder).unwrap_or_else(|error| panic!("{folder}: {error}"));
-    let texts = files.map(|file| read_to_string(file.expect("a file").path()).expect("a text"));
-    texts.flat_map(|text| numbers(&text)).collect()
+/// The numbers of crates' definitions, all files of their specs/. A name may
+/// stand in a file behind the one that uses it, so all are read twice.
+fn definitions(crates: &[&str]) -> Numbers {
+    let mut texts = String::new();
+    for name in crates {
+        // Tests run in the crate's folder.
+        let folder = format!("../crates/{name}/specs");
+        let files = read_dir(&folder).unwrap_or_else(|error| panic!("{folder}: {error}"));
+        for file in files {
+            texts.push_str(&read_to_string(file.expect("a file").path()).expect("a text"));
+        }
+    }
+    numbers(&texts.repeat(2))
 }
 
 /// What an expression of + - * / and brackets comes to.
@@ -141,7 +147,7 @@ fn the_header_has_the_same_numbers() {
 
 #[test]
 fn the_definitions_have_the_same_numbers() {
-    let limits = definitions("jit");
+    let limits = definitions(&["code", "jit"]);
     for (name, number) in [
         ("mostSlots", SLOTS_MAX),
         ("longestProgram", PROGRAM_MAX),
@@ -155,5 +161,5 @@ fn the_definitions_have_the_same_numbers() {
     ] {
         assert_eq!(limits.get(name), Some(&number), "{name}");
     }
-    assert_eq!(definitions("refusals_text").get("sentenceEnough"), Some(&SENTENCE_ENOUGH));
+    assert_eq!(definitions(&["refusals_text"]).get("sentenceEnough"), Some(&SENTENCE_ENOUGH));
 }
