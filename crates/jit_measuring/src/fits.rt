@@ -13,11 +13,13 @@ ghost use Rattle.jit_measuring.specs.Fits.{isAddress};
 ghost use Rattle.jit_measuring.specs.Lent.{IsTable, Inside, goodCall, Sees, Sure};
 use base::Position;
 use base::Slot;
-use ebpf::insn;
+use ebpf::insn::offset_at;
+use ebpf::insn::read_i32;
 use ebpf::kind;
 use jit::Helper;
 use jit_recording::emission;
 use jit_walk::step;
+use jit_walk::step::swap_bits;
 
 // What a look at a slot finds: a doubt, or a slot that is translated: to SHORT_SLOT bytes at most, to LONG_SLOT (division and calls), or with the next
 // slot as its second half.
@@ -100,18 +102,9 @@ fn look_at(
             Glance::Doubtful
         }
         kind::KIND_MULDIVMOD => Glance::Long,
-        kind::KIND_BE => found_if(
-            step::swap_bits(insn::read_i32(prog, at + 4)),
-            Glance::Narrow,
-        ),
-        kind::KIND_JA => found_if(
-            reaches(n, slot, insn::offset_at(prog, at + 2)),
-            Glance::Narrow,
-        ),
-        kind::KIND_JUMP => found_if(
-            reaches(n, slot, insn::offset_at(prog, at + 2)),
-            Glance::Narrow,
-        ),
+        kind::KIND_BE => found_if(swap_bits(read_i32(prog, at + 4)), Glance::Narrow),
+        kind::KIND_JA => found_if(reaches(n, slot, offset_at(prog, at + 2)), Glance::Narrow),
+        kind::KIND_JUMP => found_if(reaches(n, slot, offset_at(prog, at + 2)), Glance::Narrow),
         kind::KIND_CALL => found_if(
             calls(
                 ids,
@@ -119,7 +112,7 @@ fn look_at(
                 n,
                 slot,
                 registers / 16,
-                insn::read_i32(prog, at + 4),
+                read_i32(prog, at + 4),
             ),
             Glance::Long,
         ),

@@ -6,6 +6,7 @@ ghost use Rattle.x86.specs.Instr.{load, store, storeImm};
 ghost use Rattle.x86_emit.specs.Addresses.{Addresses};
 ghost use Rattle.x86_emit.specs.Lent.{Wrote, Fits};
 use crate::bytes;
+use crate::bytes::emit_rexed;
 use base::Position;
 use base::Size;
 use x86::GROUP11;
@@ -87,7 +88,7 @@ pub fn emit_load(
 {
     let m = modrm_and_displacement(dst, base, disp);
     match size {
-        Size::S8 => bytes::emit_rexed(
+        Size::S8 => emit_rexed(
             code,
             at,
             0,
@@ -96,7 +97,7 @@ pub fn emit_load(
             TWO_BYTES + 256 * (MOVZX_BYTE + 256 * m.word),
             m.size + 2,
         ),
-        Size::S16 => bytes::emit_rexed(
+        Size::S16 => emit_rexed(
             code,
             at,
             0,
@@ -105,8 +106,8 @@ pub fn emit_load(
             TWO_BYTES + 256 * (MOVZX_WORD + 256 * m.word),
             m.size + 2,
         ),
-        Size::S32 => bytes::emit_rexed(code, at, 0, dst, base, MOV_LOAD + 256 * m.word, m.size + 1),
-        Size::S64 => bytes::emit_rexed(code, at, 1, dst, base, MOV_LOAD + 256 * m.word, m.size + 1),
+        Size::S32 => emit_rexed(code, at, 0, dst, base, MOV_LOAD + 256 * m.word, m.size + 1),
+        Size::S64 => emit_rexed(code, at, 1, dst, base, MOV_LOAD + 256 * m.word, m.size + 1),
     }
 }
 
@@ -130,10 +131,10 @@ pub fn emit_store(
         }
         Size::S16 => {
             let next = bytes::emit_bytes(code, at, OPERAND_SIZE, 1);
-            bytes::emit_rexed(code, next, 0, src, base, STORE + 256 * m.word, m.size + 1)
+            emit_rexed(code, next, 0, src, base, STORE + 256 * m.word, m.size + 1)
         }
-        Size::S32 => bytes::emit_rexed(code, at, 0, src, base, STORE + 256 * m.word, m.size + 1),
-        Size::S64 => bytes::emit_rexed(code, at, 1, src, base, STORE + 256 * m.word, m.size + 1),
+        Size::S32 => emit_rexed(code, at, 0, src, base, STORE + 256 * m.word, m.size + 1),
+        Size::S64 => emit_rexed(code, at, 1, src, base, STORE + 256 * m.word, m.size + 1),
     }
 }
 
@@ -152,7 +153,7 @@ pub fn emit_store_imm32(
     let m = modrm_and_displacement(GROUP11_MOV, base, disp);
     match size {
         Size::S8 => {
-            let next = bytes::emit_rexed(
+            let next = emit_rexed(
                 code,
                 at,
                 0,
@@ -165,39 +166,15 @@ pub fn emit_store_imm32(
         }
         Size::S16 => {
             let rex = bytes::emit_bytes(code, at, OPERAND_SIZE, 1);
-            let next = bytes::emit_rexed(
-                code,
-                rex,
-                0,
-                0,
-                base,
-                STORE_IMM + 256 * m.word,
-                m.size + 1,
-            );
+            let next = emit_rexed(code, rex, 0, 0, base, STORE_IMM + 256 * m.word, m.size + 1);
             bytes::emit_bytes(code, next, imm as u64, 2)
         }
         Size::S32 => {
-            let next = bytes::emit_rexed(
-                code,
-                at,
-                0,
-                0,
-                base,
-                STORE_IMM + 256 * m.word,
-                m.size + 1,
-            );
+            let next = emit_rexed(code, at, 0, 0, base, STORE_IMM + 256 * m.word, m.size + 1);
             bytes::emit_bytes(code, next, imm as u64, 4)
         }
         Size::S64 => {
-            let next = bytes::emit_rexed(
-                code,
-                at,
-                1,
-                0,
-                base,
-                STORE_IMM + 256 * m.word,
-                m.size + 1,
-            );
+            let next = emit_rexed(code, at, 1, 0, base, STORE_IMM + 256 * m.word, m.size + 1);
             bytes::emit_bytes(code, next, imm as u64, 4)
         }
     }

@@ -8,6 +8,7 @@ use text::form::put_form;
 use text::text::put_text;
 use x86_instructions::Instruction;
 use x86_instructions::size_of;
+use x86_operands::put_with_constant;
 use x86_registers::put_register;
 
 fn put_by_count(out: &mut [u8], at: usize, z: Size, d: u8) -> usize
@@ -21,7 +22,7 @@ fn put_arithmetic(out: &mut [u8], at: usize, w: Width, d: u8, imm: u32) -> usize
     ensures { λ k. ⌜ Says out at k (arithmeticText w d imm) ⌝ }
 {
     let z = size_of(w);
-    x86_operands::put_with_constant(out, at, z, d, x86_operands::constant_of(z, imm))
+    put_with_constant(out, at, z, d, x86_operands::constant_of(z, imm))
 }
 
 fn put_operands(out: &mut [u8], at: usize, i: Instruction, end: usize) -> usize
@@ -32,23 +33,11 @@ fn put_operands(out: &mut [u8], at: usize, i: Instruction, end: usize) -> usize
         Instruction::Pop(r) => put_register(out, at, Size::S64, r),
         Instruction::Alu(_, w, s, d) => x86_operands::put_pair(out, at, size_of(w), d, s),
         Instruction::AluImm(_, w, d, imm) => put_arithmetic(out, at, w, d, imm),
-        Instruction::ShiftImm(_, w, d, n) => x86_operands::put_with_constant(
-            out,
-            at,
-            size_of(w),
-            d,
-            n as u64,
-        ),
+        Instruction::ShiftImm(_, w, d, n) => put_with_constant(out, at, size_of(w), d, n as u64),
         Instruction::ShiftCl(_, w, d) => put_by_count(out, at, size_of(w), d),
         Instruction::Unary(_, w, r) => put_register(out, at, size_of(w), r),
-        Instruction::Movabs(d, v) => x86_operands::put_with_constant(out, at, Size::S64, d, v),
-        Instruction::Rol16(d, n) => x86_operands::put_with_constant(
-            out,
-            at,
-            Size::S16,
-            d,
-            n as u64,
-        ),
+        Instruction::Movabs(d, v) => put_with_constant(out, at, Size::S64, d, v),
+        Instruction::Rol16(d, n) => put_with_constant(out, at, Size::S16, d, n as u64),
         Instruction::Bswap(w, d) => put_register(out, at, size_of(w), d),
         Instruction::Load(z, b, d, v) => x86_operands::put_load(out, at, z, b, d, v),
         Instruction::Store(z, s, b, v) => x86_operands::put_store(out, at, z, s, b, v),
