@@ -56,7 +56,8 @@ emits-then {at = at} {at₁ = at₁} a b p q =
     }
 
 pub jumped : {c c′ f f′ t t′ : List ℕ} {at end at′ j j′ target : ℕ} (is : Code) (k : Jump) → targetsOf is ≡ []
-    → Wrote c c′ at end (blanks (is ++ (jump k (to target) ∷ []))) → Recorded f f′ t t′ end j at′ j′ target → Emits c c′ f f′ t t′ at j at′ j′ (is ++ (jump k (to target) ∷ []))
+    → Wrote c c′ at end (blanks (is ++ (jump k (to target) ∷ []))) → Recorded f f′ t t′ end j at′ j′ target
+    → Emits c c′ f f′ t t′ at j at′ j′ (is ++ (jump k (to target) ∷ []))
 jumped is k e w r = rw (r .at-is, r .next, r .field, r .target) (jumping is k _ e w)
 
 -- no jump, with the next place under another name

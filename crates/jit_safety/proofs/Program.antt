@@ -163,7 +163,9 @@ module _ (x : Inputs) (given : Given x) where
     step-comes = by (ltb (length (x .filter .program)) (8 * slot + 8))
       where
         by : (t : Bool)
-            → Comes (x .filter .program) slot (stepRead (x .filter .ids) (x .filter .addresses) slot (pick t Torn (Whole (insnAt (x .filter .program) slot))) (readAt (x .filter .program) (slot + 1)))
+            → Comes (x .filter .program) slot
+            (stepRead (x .filter .ids) (x .filter .addresses) slot (pick t Torn (Whole (insnAt (x .filter .program) slot)))
+            (readAt (x .filter .program) (slot + 1)))
         by true = tt
         by false = let i = insnAt (x .filter .program) slot in registers-comes (goodRegisters i) (kindOf (i .opc)) refl
 

@@ -62,7 +62,8 @@ module _ (x : Inputs) (j : Jump) (v e : ℕ) (behind : List (Instr ℕ)) (s : Sk
     its-slot =
         let front = size (prologue (x .flags)) in
         let o = s .slot in
-        let r = same-block (o .ahead) (here .ahead) (s .block) b (o .behind) (here .behind) (e - front) (sym (o .split) ∙ here .split) (omega (arith, o .place, s .from, len-some {D = ℕ} (jump j v)))
+        let r = same-block (o .ahead) (here .ahead) (s .block) b (o .behind) (here .behind) (e - front) (sym (o .split) ∙ here .split)
+        (omega (arith, o .place, s .from, len-some {D = ℕ} (jump j v)))
         (omega (arith, o .place, s .goes, s .within)) (omega (arith, here .place, from)) (omega (arith, here .place, within)) in
         let h = r .0 in
         (sym (o .number) ∙ rw h (here .number), sym (o .place) ∙ rw h (here .place), r .1)

@@ -39,7 +39,8 @@ use Rattle.jit_translate.specs.Halves.{Head, BegunAs, Begun, Ended}
 
 -- It admits one answer only: the outcome and the contents at entry settle the answer and the contents at exit.
 pub one-answer : {o : Outcome} {c₀ c₁ c₂ l₀ l₁ l₂ f₀ f₁ f₂ t₀ t₁ t₂ : List ℕ} {r s : Answer}
-    → Translated o c₀ c₁ l₀ l₁ f₀ f₁ t₀ t₁ r → Translated o c₀ c₂ l₀ l₂ f₀ f₂ t₀ t₂ s → (r ≡ s) × (c₁ ≡ c₂) × (l₁ ≡ l₂) × (f₁ ≡ f₂) × (t₁ ≡ t₂)
+    → Translated o c₀ c₁ l₀ l₁ f₀ f₁ t₀ t₁ r → Translated o c₀ c₂ l₀ l₂ f₀ f₂ t₀ t₂ s
+    → (r ≡ s) × (c₁ ≡ c₂) × (l₁ ≡ l₂) × (f₁ ≡ f₂) × (t₁ ≡ t₂)
 one-answer a b =
     (a .answer ∙ sym (b .answer), a .code ∙ sym (b .code), a .locations ∙ sym (b .locations), a .fields ∙ sym (b .fields), a .targets ∙ sym (b .targets))
 

@@ -282,4 +282,5 @@ emit-words-spec 𝓤 H 𝓜 𝓖 𝓡 =
     (tables 𝓤 H 𝓜 𝓡 code.env .C) (tables 𝓤 H 𝓜 𝓡 code.env .Λ) #page·emit-words code.function (code.unfolded 𝓤 H 𝓜 𝓡)
     (emit-words-meets 𝓤 H (𝓖 .A) (givenOf 𝓤 H 𝓜 𝓖) (𝓜 .mem) (𝓡 .run) (tablesOf 𝓤 H 𝓜 (tables 𝓤 H 𝓜 𝓡 code.env))
     (cited 𝓤 H (New 𝓤 H (𝓖 .A) (𝓜 .mem) (𝓡 .run)) 𝓜 𝓡 code.env #page·new new-def.routine code.calls-x86-page·new (new-thm.met 𝓤 H 𝓜 𝓖 𝓡))
-    (cited 𝓤 H (Emit 𝓤 H (𝓖 .A) (𝓜 .mem) (𝓡 .run)) 𝓜 𝓡 code.env #page·emit-bytes emit-bytes-def.routine code.calls-x86-page·emit-bytes (emit-bytes-thm.met 𝓤 H 𝓜 𝓖 𝓡)))
+    (cited 𝓤 H (Emit 𝓤 H (𝓖 .A) (𝓜 .mem) (𝓡 .run)) 𝓜 𝓡 code.env #page·emit-bytes emit-bytes-def.routine
+    code.calls-x86-page·emit-bytes (emit-bytes-thm.met 𝓤 H 𝓜 𝓖 𝓡)))
