@@ -1,12 +1,15 @@
 #!/usr/bin/env python3
-"""Prints the bench's tables, in Markdown, from its rows, icount.c's counts and, where there are some, its times.
+"""Prints the bench's tables, in Markdown, from its rows, icount.c's counts and, where there are some, its times; then a summary.
 
     bench/table.py ROWS COUNTS HASHLESS-COUNTS [TIMES]
 
-The last line is `ratio R`: this library's instructions over the Rust's on the corpus.
+DPDK's columns stand where the counts have some of its JIT. The last line is `ratio R`: this library's instructions over the Rust's on the
+corpus.
 """
 
 import sys
+from collections import Counter
+from typing import NamedTuple
 
 TITLES = [
     ("sizes", "One program, on the longest page"),
@@ -17,23 +20,97 @@ TITLES = [
     ("kinds", "256 slots of one kind"),
 ]
 
+# A row's labels in the counts, from its own: as src/measure.rs marks them.
+RUST, OURS, DPDK, OURS_BESIDE_DPDK = range(4)
+
+
+# ---- what the files say ----------------------------------------------------------------------------------------------------------------
+
+
+class Row(NamedTuple):
+    table: str
+    name: str
+    programs: int
+    slots: int
+    times: list
+
 
 def rows_of(name):
-    """label -> table, name, programs, slots, and what else the line has."""
+    """label -> Row; the times are what else the line has."""
     rows = {}
     with open(name) as lines:
         for line in lines:
-            label, table, row, programs, slots, *rest = line.rstrip("\n").split("\t")
-            rows[int(label)] = (table, row, int(programs), int(slots), [float(number) for number in rest])
+            label, table, row, programs, slots, *times = line.rstrip("\n").split("\t")
+            rows[int(label)] = Row(table, row, int(programs), int(slots), [float(time) for time in times])
     return rows
 
 
-def counts_of(name):
-    """label -> instructions, without those of the marks (label 0)."""
-    with open(name) as lines:
-        counts = {int(label): (int(count), int(stretches)) for label, count, stretches in map(str.split, lines)}
-    mark = counts[0][0] // counts[0][1]
-    return {label: count - mark * stretches for label, (count, stretches) in counts.items()}
+class Counts:
+    """Of a label its instructions, without those of the marks (label 0), and its stretches; none where it was not marked."""
+
+    def __init__(self, name):
+        self.instructions, self.stretches = Counter(), Counter()
+        with open(name) as lines:
+            for label, count, stretches in (map(int, line.split()) for line in lines):
+                self.instructions[label], self.stretches[label] = count, stretches
+        mark = self.instructions[0] // self.stretches[0]
+        for label, stretches in self.stretches.items():
+            self.instructions[label] -= mark * stretches
+
+
+# ---- columns ---------------------------------------------------------------------------------------------------------------------------
+
+
+class Figures(NamedTuple):
+    """A row's, or the sums of several. DPDK's JIT takes some of the programs; its count and ours beside it are of these alone."""
+
+    programs: int
+    slots: int
+    rust: int
+    hashless: int
+    ours: int
+    dpdk_programs: int
+    dpdk: int
+    ours_beside_dpdk: int
+    rust_ns: float
+    ours_ns: float
+
+
+def ratio(ours, other):
+    return f"{ours / other:.3f}" if other else "-"
+
+
+def per_slot(count, slots):
+    return f"{count / slots:.0f}" if slots else "-"
+
+
+COLUMNS = {
+    "programs": lambda row: row.programs,
+    "DPDK takes": lambda row: row.dpdk_programs,
+    "slots": lambda row: row.slots,
+    "Rust": lambda row: row.rust,
+    "hashless": lambda row: row.hashless,
+    "DPDK": lambda row: row.dpdk or "-",
+    "ours": lambda row: row.ours,
+    "Rust a slot": lambda row: per_slot(row.rust, row.slots),
+    "ours a slot": lambda row: per_slot(row.ours, row.slots),
+    "ours / Rust": lambda row: ratio(row.ours, row.rust),
+    "ours / hashless": lambda row: ratio(row.ours, row.hashless),
+    "ours / DPDK": lambda row: ratio(row.ours_beside_dpdk, row.dpdk),
+    "Rust ns": lambda row: int(row.rust_ns),
+    "ours ns": lambda row: int(row.ours_ns),
+    "ours / Rust ns": lambda row: ratio(row.ours_ns, row.rust_ns),
+}
+SUMMARY_COLUMNS = ["Rust", "DPDK", "ours", "ours / Rust", "ours / DPDK"]
+SUMMARY_ROWS = [
+    "EXIT alone",
+    "16 slots",
+    "256 slots",
+    "2048 slots",
+    "2048 slots, page of 16384",
+    "2048 slots, refused at the last",
+    "the corpus's accepted programs",
+]
 
 
 class Table:
@@ -53,76 +130,88 @@ class Table:
             print("| " + " | ".join(line) + " |")
 
 
-def ratio(ours, rust):
-    return f"{ours / rust:.3f}"
-
-
-def per_slot(count, slots):
-    return f"{count / slots:.0f}" if slots else "-"
+# ---- tables ----------------------------------------------------------------------------------------------------------------------------
 
 
 class Bench:
     def __init__(self, rows, counts, hashless, times):
         self.rows, self.counts, self.hashless, self.times = rows, counts, hashless, times
+        self.with_dpdk = any(counts.stretches[label + DPDK] for label in rows)
 
-    def heads(self):
-        heads = ["", "programs", "slots", "Rust", "hashless", "ours", "Rust a slot", "ours a slot", "ours / Rust", "ours / hashless"]
-        return heads + (["Rust ns", "ours ns", "ours / Rust"] if self.times else [])
+    def figures(self, label):
+        row, count = self.rows[label], self.counts.instructions
+        rust = [count[label + RUST], self.hashless.instructions[label + RUST]]
+        dpdk = [self.counts.stretches[label + DPDK], count[label + DPDK], count[label + OURS_BESIDE_DPDK]]
+        times = self.times[label].times if self.times else [0, 0]
+        return Figures(row.programs, row.slots, *rust, count[label + OURS], *dpdk, *times)
 
-    def numbers(self, label):
-        """programs, slots, the Rust, the Rust without hashing, ours, and both times."""
-        _, _, programs, slots, _ = self.rows[label]
-        return [programs, slots, self.counts[label], self.hashless[label], self.counts[label + 1]] + (self.times[label][4] if self.times else [])
+    def named(self, name):
+        return self.figures(next(label for label, row in self.rows.items() if row.name == name))
 
-    def cells(self, name, numbers):
-        programs, slots, rust, hashless, ours, *times = numbers
-        cells = [name, programs, slots, rust, hashless, ours, per_slot(rust, slots), per_slot(ours, slots), ratio(ours, rust), ratio(ours, hashless)]
-        return cells + ([int(times[0]), int(times[1]), ratio(times[1], times[0])] if times else [])
+    def shown(self, table):
+        """name -> Figures of a table's rows, without those whose program is refused."""
+        return {row.name: self.figures(label) for label, row in self.rows.items() if row.table == table and row.programs > 0}
+
+    def show_columns(self, heads, figures):
+        heads = [head for head in heads if (self.with_dpdk or "DPDK" not in head) and (self.times or "ns" not in head.split())]
+        view = Table("", *heads)
+        for name, row in figures.items():
+            view.add(name, *[COLUMNS[head](row) for head in heads])
+        view.show()
 
     def show(self, table):
-        labels = [label for label, row in self.rows.items() if row[0] == table]
-        shown = [label for label in labels if self.rows[label][2] > 0]
-        if not shown:
+        figures = self.shown(table)
+        if not figures:
             print("There are no examples/filters/*.bin to translate.")
             return
-        view = Table(*self.heads())
-        for label in shown:
-            view.add(*self.cells(self.rows[label][1], self.numbers(label)))
+        left_out = [row.name for row in self.rows.values() if row.table == table and row.name not in figures]
         if table == "filters":
-            view.add(*self.cells("all", [sum(column) for column in zip(*map(self.numbers, shown))]))
-        view.show()
-        left_out = [self.rows[label][1] for label in labels if label not in shown]
+            figures["all"] = sums(figures)
+        self.show_columns(COLUMNS, figures)
         if left_out:
             print(f"\nRefused, and left out: {', '.join(left_out)}.")
 
     def passes(self):
-        """On a long page a program is checked and written, on a page that is too short to be sure measured and written; refused at its
-        last slot, it is checked and measured. The three make each pass's share."""
-        by_name = {row[1]: label for label, row in self.rows.items()}
-        counts = [self.counts[by_name[f"2048 slots{where}"] + 1] for where in ["", ", page of 16384", ", refused at the last"]]
-        checked_written, measured_written, checked_measured = counts
+        """A program that is refused at its last slot is checked; on a long page it is checked and written, on a page that is too short to
+        be sure measured and written. The three make each pass's share."""
+        wheres = [", refused at the last", "", ", page of 16384"]
+        checked, checked_written, measured_written = (self.named(f"2048 slots{where}").ours for where in wheres)
+        written = checked_written - checked
         view = Table("ours, 2,048 slots", "instructions", "a slot")
-        for name, doubled in [
-            ("checking", checked_written + checked_measured - measured_written),
-            ("measuring", checked_measured + measured_written - checked_written),
-            ("writing", checked_written + measured_written - checked_measured),
-        ]:
-            view.add(name, doubled // 2, per_slot(doubled / 2, 2048))
+        for name, share in [("checking", checked), ("measuring", measured_written - written), ("writing", written)]:
+            view.add(name, share, per_slot(share, 2048))
         view.show()
 
+    def summary(self):
+        figures = {name: self.named(name) for name in SUMMARY_ROWS}
+        filters = self.shown("filters")
+        if filters:
+            figures["the real filters"] = sums(filters)
+        self.show_columns(SUMMARY_COLUMNS, figures)
+        in_part = {name: row for name, row in figures.items() if 0 < row.dpdk_programs < row.programs}
+        if in_part:
+            takes = " and ".join(f'{row.dpdk_programs:,} of the {row.programs:,} of "{name}"' for name, row in in_part.items())
+            print(f"\nDPDK takes {takes}: its figures there and ours / DPDK are of these alone.")
+
     def corpus(self):
-        label = next(label for label, row in self.rows.items() if row[0] == "corpus")
-        return ratio(self.counts[label + 1], self.counts[label])
+        (corpus,) = self.shown("corpus").values()
+        return ratio(corpus.ours, corpus.rust)
+
+
+def sums(figures):
+    return Figures(*map(sum, zip(*figures.values())))
 
 
 def main():
     times = rows_of(sys.argv[4]) if len(sys.argv) > 4 else {}
-    bench = Bench(rows_of(sys.argv[1]), counts_of(sys.argv[2]), counts_of(sys.argv[3]), times)
+    bench = Bench(rows_of(sys.argv[1]), Counts(sys.argv[2]), Counts(sys.argv[3]), times)
     for table, title in TITLES:
         print(f"\n{title}:\n")
         bench.show(table)
     print("\nOurs, by pass:\n")
     bench.passes()
+    print("\nSummary (on a page of 16384 bytes ours measures the program before it writes it):\n")
+    bench.summary()
     print(f"\nratio {bench.corpus()}")
 
 

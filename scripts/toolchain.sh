@@ -44,6 +44,7 @@ packages() {
     x86_64-linux-gnu-objdump) echo binutils-x86-64-linux-gnu ;;
     qemu-x86_64) echo qemu-user ;;
     cargo) echo cargo-web ;;
+    xz) echo xz-utils ;;
     rust_x86) echo "${rust_packages[@]}" ;;
     *) echo "$1" ;;
     esac

@@ -1,5 +1,5 @@
-//! The bench: rbpf's own JIT and this project's library, put to the same
-//! programs in one run.
+//! The bench: rbpf's own JIT, this project's library and, where its source is
+//! had, DPDK's JIT, put to the same programs in one run.
 //!
 //! Here stand rbpf's two files, as in the oracle, and the names they expect
 //! at the crate root: real ones here, so that what they cost is counted. The
@@ -10,7 +10,10 @@
 //!
 //! Either prints a line for each row: its label, its table, its name, how many
 //! programs and slots it has, and, of `time`, nanoseconds of the Rust and ours.
+//! DPDK's JIT is counted, and not timed.
 
+#[cfg_attr(not(dpdk), path = "no_dpdk.rs")]
+mod dpdk;
 mod map;
 mod measure;
 mod programs;

@@ -4,7 +4,8 @@
 //! One translation of the Rust is `JitMemory::new` of the no-std form, with
 //! what it does inside: `Vec`s on the heap, hashing, assertions. Ours is one
 //! call of `ndakoleem_translate`. Neither allocates the page or clears it, and
-//! the Rust's map of helpers is made beforehand.
+//! the Rust's map of helpers is made beforehand. DPDK's JIT is counted beside
+//! them on the programs that it takes; it maps a page of its own.
 
 use std::hint::black_box;
 use std::time::{Duration, Instant};
@@ -12,7 +13,7 @@ use std::time::{Duration, Instant};
 use crate::observe::debug_number;
 use crate::programs::Row;
 use crate::stream::Case;
-use crate::{ebpf, jit, HashMap};
+use crate::{dpdk, ebpf, jit, HashMap};
 use ndakoleem::raw;
 
 #[derive(Clone, Copy)]
@@ -23,6 +24,13 @@ pub enum Measured {
 
 const PAGE: usize = ndakoleem::CODE_MAX;
 const ENTRIES: usize = 2 * ndakoleem::SLOTS_MAX;
+/// A row's labels, from its first, as `table.py` reads them. The last two are
+/// of the programs that DPDK's JIT takes.
+const RUST: u64 = 0;
+const OURS: u64 = 1;
+const DPDK: u64 = 2;
+const OURS_BESIDE_DPDK: u64 = 3;
+const LABELS: u64 = 4;
 /// A timed row goes on for at least this long.
 const AT_LEAST: Duration = Duration::from_millis(200);
 
@@ -46,7 +54,11 @@ fn run_rust(case: &Case, helpers: &HashMap<u32, ebpf::Helper>, page: &mut [u8]) 
 
 /// As `run_rust`, with the code's length where the program is accepted, which
 /// jit.rs shows in its Debug text only.
-fn rust_length(case: &Case, helpers: &HashMap<u32, ebpf::Helper>, page: &mut [u8]) -> Option<usize> {
+fn rust_length(
+    case: &Case,
+    helpers: &HashMap<u32, ebpf::Helper>,
+    page: &mut [u8],
+) -> Option<usize> {
     let done =
         jit::JitMemory::new(&case.program, page, helpers, case.use_mbuff, case.update_data_ptr);
     done.ok().map(|memory| debug_number(&format!("{memory:?}"), "offset: ") as usize)
@@ -87,11 +99,12 @@ fn mark(number: u64, label: u64) {
     }
 }
 
-fn begin(label: u64) {
+/// One translation between two marks: a function of its own, so that what
+/// stands around it does not change what is counted of it.
+#[inline(never)]
+fn marked(label: u64, translation: impl FnOnce()) {
     mark(500_000, label);
-}
-
-fn end() {
+    translation();
     mark(500_001, 0);
 }
 
@@ -128,13 +141,16 @@ fn prepared(case: &Case, refused: bool, lent: &mut Lent) -> Result<Option<usize>
 fn counted(label: u64, case: &Case, length: usize, lent: &mut Lent) {
     let helpers = helpers_of(case);
     let page = &mut lent.rust_page.0[..length];
-    begin(label);
-    black_box(run_rust(black_box(case), &helpers, page));
-    end();
+    marked(label + RUST, || _ = black_box(run_rust(case, &helpers, page)));
     let page = &mut lent.our_page.0[..length];
-    begin(label + 1);
-    black_box(run_ours(black_box(case), page, &mut lent.tables));
-    end();
+    marked(label + OURS, || _ = black_box(run_ours(case, page, &mut lent.tables)));
+}
+
+fn counted_beside_dpdk(label: u64, case: &Case, length: usize, lent: &mut Lent) {
+    let Some(mut program) = dpdk::Program::taken(case) else { return };
+    marked(label + DPDK, || _ = black_box(program.translate()));
+    let page = &mut lent.our_page.0[..length];
+    marked(label + OURS_BESIDE_DPDK, || _ = black_box(run_ours(case, page, &mut lent.tables)));
 }
 
 /// Nanoseconds of one translation, the shortest of five rounds.
@@ -172,22 +188,31 @@ fn times(cases: &[(&Case, usize)], lent: &mut Lent) -> (f64, f64) {
     (rust, ours)
 }
 
+/// A row's cases that belong in it, each with its page's length.
+fn ready<'a>(row: &'a Row, lent: &mut Lent) -> Result<Vec<(&'a Case, usize)>, String> {
+    let refused = row.table == "refused";
+    let mut cases = Vec::new();
+    for case in &row.cases {
+        let length = prepared(case, refused, lent).map_err(|why| format!("{}: {why}", row.name))?;
+        cases.extend(length.map(|length| (case, length)));
+    }
+    Ok(cases)
+}
+
 /// Label 0 is the cost of the marks themselves.
+fn labelled(rows: &[Row]) -> impl Iterator<Item = (u64, &Row)> {
+    (1..).map(|at| LABELS * at).zip(rows)
+}
+
+/// DPDK's JIT comes behind all rows, so that its use of the heap does not move
+/// the Rust's counts.
 pub fn all(measured: Measured, rows: &[Row]) -> Result<(), String> {
     let page = || Box::new(Page([0; PAGE]));
     let mut lent =
         Lent { rust_page: page(), our_page: page(), tables: [0, 1, 2].map(|_| vec![0; ENTRIES]) };
-    begin(0);
-    end();
-    for (at, row) in rows.iter().enumerate() {
-        let label = 2 + 2 * at as u64;
-        let refused = row.table == "refused";
-        let mut cases = Vec::new();
-        for case in &row.cases {
-            let ready = prepared(case, refused, &mut lent);
-            let ready = ready.map_err(|why| format!("{}: {why}", row.name))?;
-            cases.extend(ready.map(|length| (case, length)));
-        }
+    marked(0, || ());
+    for (label, row) in labelled(rows) {
+        let cases = ready(row, &mut lent)?;
         let slots: usize = cases.iter().map(|(case, _)| case.slots()).sum();
         print!("{label}\t{}\t{}\t{}\t{slots}", row.table, row.name, cases.len());
         match measured {
@@ -200,6 +225,13 @@ pub fn all(measured: Measured, rows: &[Row]) -> Result<(), String> {
             Measured::Timed => {
                 let (rust, ours) = times(&cases, &mut lent);
                 println!("\t{rust:.0}\t{ours:.0}");
+            }
+        }
+    }
+    if let Measured::Counted = measured {
+        for (label, row) in labelled(rows) {
+            for (case, length) in ready(row, &mut lent)? {
+                counted_beside_dpdk(label, case, length, &mut lent);
             }
         }
     }

@@ -19,27 +19,85 @@ use Rattle.base.specs.Cases.{Arm, _⇒_, cases}
 use Rattle.base.specs.Table.{values}
 use Rattle.ebpf.specs.Opcode.{classOf, sourceOf, operationOf, sizeOf, kindOf}
 
+-- The kinds' numbers, under the names that src/kind.rt has behind KIND_. Up to CALL are those of which a look at the slot has more to ask.
+abbrev pub UNKNOWN : ℕ
+UNKNOWN = 0
+
+abbrev pub UNIMPLEMENTED : ℕ
+UNIMPLEMENTED = 1
+
+abbrev pub LD-DW-IMM : ℕ
+LD-DW-IMM = 2
+
+abbrev pub MULDIVMOD : ℕ
+MULDIVMOD = 3
+
+abbrev pub BE : ℕ
+BE = 4
+
+abbrev pub JA : ℕ
+JA = 5
+
+abbrev pub JUMP : ℕ
+JUMP = 6
+
+abbrev pub CALL : ℕ
+CALL = 7
+
+abbrev pub LD-ABS : ℕ
+LD-ABS = 8
+
+abbrev pub LD-IND : ℕ
+LD-IND = 9
+
+abbrev pub LD-REG : ℕ
+LD-REG = 10
+
+abbrev pub ST-IMM : ℕ
+ST-IMM = 11
+
+abbrev pub ST-REG : ℕ
+ST-REG = 12
+
+abbrev pub ALU : ℕ
+ALU = 13
+
+abbrev pub SHIFT : ℕ
+SHIFT = 14
+
+abbrev pub NEG : ℕ
+NEG = 15
+
+abbrev pub MOV : ℕ
+MOV = 16
+
+abbrev pub LE : ℕ
+LE = 17
+
+abbrev pub EXIT : ℕ
+EXIT = 18
+
 -- a kind's number; what is in the opcode's own fields is left out
 abbrev pub numberOf : Lookup → ℕ
-numberOf Unknown = 0
-numberOf Unimplemented = 1
-numberOf (Known (LdAbs z)) = 2
-numberOf (Known (LdInd z)) = 3
-numberOf (Known LdDwImm) = 4
-numberOf (Known (LdReg z)) = 5
-numberOf (Known (StImm z)) = 6
-numberOf (Known (StReg z)) = 7
-numberOf (Known (Alu o w s)) = 8
-numberOf (Known (Shift o w s)) = 9
-numberOf (Known (Neg w)) = 10
-numberOf (Known (MulDivMod o w s)) = 11
-numberOf (Known (Mov w s)) = 12
-numberOf (Known Le) = 13
-numberOf (Known Be) = 14
-numberOf (Known Ja) = 15
-numberOf (Known (Jump c w s)) = 16
-numberOf (Known Call) = 17
-numberOf (Known Exit) = 18
+numberOf Unknown = UNKNOWN
+numberOf Unimplemented = UNIMPLEMENTED
+numberOf (Known LdDwImm) = LD-DW-IMM
+numberOf (Known (MulDivMod o w s)) = MULDIVMOD
+numberOf (Known Be) = BE
+numberOf (Known Ja) = JA
+numberOf (Known (Jump c w s)) = JUMP
+numberOf (Known Call) = CALL
+numberOf (Known (LdAbs z)) = LD-ABS
+numberOf (Known (LdInd z)) = LD-IND
+numberOf (Known (LdReg z)) = LD-REG
+numberOf (Known (StImm z)) = ST-IMM
+numberOf (Known (StReg z)) = ST-REG
+numberOf (Known (Alu o w s)) = ALU
+numberOf (Known (Shift o w s)) = SHIFT
+numberOf (Known (Neg w)) = NEG
+numberOf (Known (Mov w s)) = MOV
+numberOf (Known Le) = LE
+numberOf (Known Exit) = EXIT
 
 -- what the table KINDS has to hold: at each opcode byte the number of the kind that RFC 9669's fields make it
 unfoldable pub numbers : List ℕ
@@ -79,24 +137,24 @@ conditionOf o = cases conditions Jsle (operationOf o)
 -- what an opcode's entry stands for
 abbrev pub kinds : ℕ → List (Arm Lookup)
 kinds o =
-    18 ⇒ Known Exit
-    ∷ 17 ⇒ Known Call
-    ∷ 16 ⇒ Known (Jump (conditionOf o) (widthOf o) (sourceOf o))
-    ∷ 15 ⇒ Known Ja
-    ∷ 14 ⇒ Known Be
-    ∷ 13 ⇒ Known Le
-    ∷ 12 ⇒ Known (Mov (widthOf o) (sourceOf o))
-    ∷ 11 ⇒ Known (MulDivMod (mulOf o) (widthOf o) (sourceOf o))
-    ∷ 10 ⇒ Known (Neg (widthOf o))
-    ∷ 9 ⇒ Known (Shift (shiftOf o) (widthOf o) (sourceOf o))
-    ∷ 8 ⇒ Known (Alu (aluOf o) (widthOf o) (sourceOf o))
-    ∷ 7 ⇒ Known (StReg (sizeOf o))
-    ∷ 6 ⇒ Known (StImm (sizeOf o))
-    ∷ 5 ⇒ Known (LdReg (sizeOf o))
-    ∷ 4 ⇒ Known LdDwImm
-    ∷ 3 ⇒ Known (LdInd (sizeOf o))
-    ∷ 2 ⇒ Known (LdAbs (sizeOf o))
-    ∷ 1 ⇒ Unimplemented
+    EXIT ⇒ Known Exit
+    ∷ LE ⇒ Known Le
+    ∷ MOV ⇒ Known (Mov (widthOf o) (sourceOf o))
+    ∷ NEG ⇒ Known (Neg (widthOf o))
+    ∷ SHIFT ⇒ Known (Shift (shiftOf o) (widthOf o) (sourceOf o))
+    ∷ ALU ⇒ Known (Alu (aluOf o) (widthOf o) (sourceOf o))
+    ∷ ST-REG ⇒ Known (StReg (sizeOf o))
+    ∷ ST-IMM ⇒ Known (StImm (sizeOf o))
+    ∷ LD-REG ⇒ Known (LdReg (sizeOf o))
+    ∷ LD-IND ⇒ Known (LdInd (sizeOf o))
+    ∷ LD-ABS ⇒ Known (LdAbs (sizeOf o))
+    ∷ CALL ⇒ Known Call
+    ∷ JUMP ⇒ Known (Jump (conditionOf o) (widthOf o) (sourceOf o))
+    ∷ JA ⇒ Known Ja
+    ∷ BE ⇒ Known Be
+    ∷ MULDIVMOD ⇒ Known (MulDivMod (mulOf o) (widthOf o) (sourceOf o))
+    ∷ LD-DW-IMM ⇒ Known LdDwImm
+    ∷ UNIMPLEMENTED ⇒ Unimplemented
     ∷ []
 
 abbrev pub numbered : ℕ → ℕ → Lookup

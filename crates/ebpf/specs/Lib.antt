@@ -1,4 +1,5 @@
 pub mod Insn
+pub mod Tail
 pub mod Opcode
 pub mod Kinds
 pub mod Named

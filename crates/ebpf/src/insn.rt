@@ -3,6 +3,7 @@ ghost use mathlib.Core.Path.{_≡_};
 ghost use Prim.Native.Nat.{_+_, _*_, _≤_, _<_, _^_};
 ghost use lib.ListN.{length};
 ghost use Rattle.ebpf.specs.Insn.{insnAt, readAt, extend, le2, le4};
+ghost use Rattle.ebpf.specs.Tail.{tailOf};
 use crate::constants::INSN_SIZE;
 use base::Slot;
 
@@ -91,4 +92,20 @@ pub fn get_insn(prog: &[u8], slot: Slot) -> Read
         return Read::Torn;
     }
     Read::Whole(insn_at(prog, slot))
+}
+
+// What is behind the last whole slot.
+pub enum Tail {
+    Nothing,
+    // Fewer than the eight bytes of a slot.
+    Torn,
+}
+
+pub fn tail_of(prog: &[u8]) -> Tail
+    ensures { λ r. ⌜ r ≡ tailOf (now (prog .entry)) ⌝ }
+{
+    if prog.len() % INSN_SIZE == 0 {
+        return Tail::Nothing;
+    }
+    Tail::Torn
 }

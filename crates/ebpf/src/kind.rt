@@ -75,42 +75,43 @@ pub enum Lookup {
     Unknown,
 }
 
-// A kind's number; the fields below it (size, width, source, operation) are the opcode's own.
+// A kind's number; the fields below it (size, width, source, operation) are the opcode's own. Up to KIND_CALL are those of which a look at
+// the slot has more to ask, so that one comparison passes all others.
 pub const KIND_UNKNOWN: u8 = 0;
 
 pub const KIND_UNIMPLEMENTED: u8 = 1;
 
-pub const KIND_LD_ABS: u8 = 2;
+pub const KIND_LD_DW_IMM: u8 = 2;
 
-pub const KIND_LD_IND: u8 = 3;
+pub const KIND_MULDIVMOD: u8 = 3;
 
-pub const KIND_LD_DW_IMM: u8 = 4;
+pub const KIND_BE: u8 = 4;
 
-pub const KIND_LD_REG: u8 = 5;
+pub const KIND_JA: u8 = 5;
 
-pub const KIND_ST_IMM: u8 = 6;
+pub const KIND_JUMP: u8 = 6;
 
-pub const KIND_ST_REG: u8 = 7;
+pub const KIND_CALL: u8 = 7;
 
-pub const KIND_ALU: u8 = 8;
+pub const KIND_LD_ABS: u8 = 8;
 
-pub const KIND_SHIFT: u8 = 9;
+pub const KIND_LD_IND: u8 = 9;
 
-pub const KIND_NEG: u8 = 10;
+pub const KIND_LD_REG: u8 = 10;
 
-pub const KIND_MULDIVMOD: u8 = 11;
+pub const KIND_ST_IMM: u8 = 11;
 
-pub const KIND_MOV: u8 = 12;
+pub const KIND_ST_REG: u8 = 12;
 
-pub const KIND_LE: u8 = 13;
+pub const KIND_ALU: u8 = 13;
 
-pub const KIND_BE: u8 = 14;
+pub const KIND_SHIFT: u8 = 14;
 
-pub const KIND_JA: u8 = 15;
+pub const KIND_NEG: u8 = 15;
 
-pub const KIND_JUMP: u8 = 16;
+pub const KIND_MOV: u8 = 16;
 
-pub const KIND_CALL: u8 = 17;
+pub const KIND_LE: u8 = 17;
 
 pub const KIND_EXIT: u8 = 18;
 
@@ -461,26 +462,26 @@ fn kind_numbered(opc: u8, number: u8) -> Lookup
 {
     match number {
         KIND_UNIMPLEMENTED => Lookup::Unimplemented,
+        KIND_LD_DW_IMM => Lookup::Known(Kind::LdDwImm),
+        KIND_MULDIVMOD => Lookup::Known(Kind::MulDivMod(
+            mul_of(opc),
+            width_of(opc),
+            source_of(opc),
+        )),
+        KIND_BE => Lookup::Known(Kind::Be),
+        KIND_JA => Lookup::Known(Kind::Ja),
+        KIND_JUMP => Lookup::Known(Kind::Jump(condition_of(opc), width_of(opc), source_of(opc))),
+        KIND_CALL => Lookup::Known(Kind::Call),
         KIND_LD_ABS => Lookup::Known(Kind::LdAbs(size_of(opc))),
         KIND_LD_IND => Lookup::Known(Kind::LdInd(size_of(opc))),
-        KIND_LD_DW_IMM => Lookup::Known(Kind::LdDwImm),
         KIND_LD_REG => Lookup::Known(Kind::LdReg(size_of(opc))),
         KIND_ST_IMM => Lookup::Known(Kind::StImm(size_of(opc))),
         KIND_ST_REG => Lookup::Known(Kind::StReg(size_of(opc))),
         KIND_ALU => Lookup::Known(Kind::Alu(alu_of(opc), width_of(opc), source_of(opc))),
         KIND_SHIFT => Lookup::Known(Kind::Shift(shift_of(opc), width_of(opc), source_of(opc))),
         KIND_NEG => Lookup::Known(Kind::Neg(width_of(opc))),
-        KIND_MULDIVMOD => Lookup::Known(Kind::MulDivMod(
-            mul_of(opc),
-            width_of(opc),
-            source_of(opc),
-        )),
         KIND_MOV => Lookup::Known(Kind::Mov(width_of(opc), source_of(opc))),
         KIND_LE => Lookup::Known(Kind::Le),
-        KIND_BE => Lookup::Known(Kind::Be),
-        KIND_JA => Lookup::Known(Kind::Ja),
-        KIND_JUMP => Lookup::Known(Kind::Jump(condition_of(opc), width_of(opc), source_of(opc))),
-        KIND_CALL => Lookup::Known(Kind::Call),
         KIND_EXIT => Lookup::Known(Kind::Exit),
         _ => Lookup::Unknown,
     }

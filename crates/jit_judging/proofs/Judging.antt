@@ -25,8 +25,8 @@ use Rattle.jit_walk.specs.Acceptable.{Acceptable}
 use Rattle.jit_measuring.specs.Measures.{measuredIs}
 use Rattle.jit_measuring.specs.declared.measure.Measured.{Measured}
 use Rattle.jit_measuring.specs.declared.measure.Measured.the-variants.{Refused, Done}
-use Rattle.jit_judging.specs.declared.verdict.Verdict.{Verdict}
-use Rattle.jit_judging.specs.declared.verdict.Verdict.the-variants.{Good, Not}
+use Rattle.jit_walk.specs.declared.verdict.Verdict.{Verdict}
+use Rattle.jit_walk.specs.declared.verdict.Verdict.the-variants.{Good, Not}
 use Rattle.jit_judging.specs.Judged.{targetsGood, verdictOf}
 
 -- what a verdict means to the definition
@@ -57,11 +57,11 @@ module _ (n page : ℕ) where
 
 -- the parts of what the measuring pass answers
 abbrev endOf : Measured → ℕ
-endOf (Done e j b) = e .offset
+endOf (Done e b) = e .offset
 endOf (Refused r) = 0
 
 abbrev badOf : Measured → Bad
-badOf (Done e j b) = b
+badOf (Done e b) = b
 badOf (Refused r) = Nowhere
 
 -- what is found settles the verdict, whatever the walk
@@ -69,18 +69,21 @@ module _ (n page start : ℕ) where
   pub accepts : {w : Walk} → Acceptable n page start w → Good ≡ verdictOf n page start w
   accepts a = rw (a .walk, le-leb _ _ (a .room), a .targets)
 
+  pub refuses-at : {w : Walk} {r : Refusal} → w ≡ refused r → Not r ≡ verdictOf n page start w
+  refuses-at e = rw e
+
   refuses-walk : (w : Walk) {r : Refusal} → Refused r ≡ measuredIs n start w → Not r ≡ verdictOf n page start w
   refuses-walk (refused s) e = cc
   refuses-walk (done bs) e = cc
 
-  no-room-walk : (w : Walk) {e : Position} {j : ℕ} {b : Bad} → Done e j b ≡ measuredIs n start w → page < e .offset + epilogueSize
+  no-room-walk : (w : Walk) {e : Position} {b : Bad} → Done e b ≡ measuredIs n start w → page < e .offset + epilogueSize
       → Not (Refusal.NoRoom (at n)) ≡ verdictOf n page start w
   no-room-walk (refused s) q h = cc
   no-room-walk (done bs) {e} q h =
       let d : e .offset ≡ start + size (flat bs) = ap endOf q in
       rw (← d, lt-leb _ _ h)
 
-  bad-jump-walk : (w : Walk) {e : Position} {j : ℕ} {b : Bad} {s : Slot} → Done e j b ≡ measuredIs n start w → b ≡ At s → e .offset + epilogueSize ≤ page
+  bad-jump-walk : (w : Walk) {e : Position} {b : Bad} {s : Slot} → Done e b ≡ measuredIs n start w → b ≡ At s → e .offset + epilogueSize ≤ page
       → Not (Refusal.BadTarget s) ≡ verdictOf n page start w
   bad-jump-walk (refused r) q f h = cc
   bad-jump-walk (done bs) {e} {b = b} q f h =
@@ -88,7 +91,7 @@ module _ (n page start : ℕ) where
       let x : b ≡ firstBad n 0 bs = ap badOf q in
       rw (← d, le-leb _ _ h, ← x, f)
 
-  all-good-walk : (w : Walk) {e : Position} {j : ℕ} {b : Bad} → Done e j b ≡ measuredIs n start w → b ≡ Nowhere → e .offset + epilogueSize ≤ page
+  all-good-walk : (w : Walk) {e : Position} {b : Bad} → Done e b ≡ measuredIs n start w → b ≡ Nowhere → e .offset + epilogueSize ≤ page
       → Good ≡ verdictOf n page start w
   all-good-walk (refused r) q f h = cc
   all-good-walk (done bs) {e} {b = b} q f h =
@@ -107,7 +110,7 @@ module _ (filter : Filter) (page start : ℕ) where
   pub refuses : {r : Refusal} → Refused r ≡ measuredIs n start w → Not r ≡ verdictOf n page start w
   refuses e = refuses-walk n page start w e
 
-  module _ {e : Position} {j : ℕ} {b : Bad} (q : Done e j b ≡ measuredIs n start w) where
+  module _ {e : Position} {b : Bad} (q : Done e b ≡ measuredIs n start w) where
     pub no-room : page < e .offset + epilogueSize → Not (Refusal.NoRoom (at n)) ≡ verdictOf n page start w
     no-room h = no-room-walk n page start w q h
 

@@ -1,20 +1,22 @@
 -- Refusals 1 to 5: the search for an id that is listed twice, the tests one by one, and that the definition begins with them.
 use mathlib.Core.Path.{_≡_, _∙_, refl, ap, sym}
-use mathlib.Core.Bool.{Bool, true, false, not, _||_}
-use mathlib.Core.List.{List}
-use Prim.Native.Nat.{ℕ, suc, _+_, _/_, _<_, _≤_}
+use mathlib.Core.Bool.{Bool, true, false, not, _&&_, _||_}
+use mathlib.Core.List.{List, [], _∷_}
+use Prim.Native.Nat.{ℕ, suc, _+_, _-_, _/_, _<_, _≤_}
 use native.Mathlib.Numerals.{add-one}
-use lib.Dec.{leb, ltb, eqb}
-use lib.ListN.{length, getD, drop, drop-of-length-le}
+use native.Mathlib.Omega.{arith}
+use lib.Dec.{T, leb, ltb, eqb, ltb→lt}
+use lib.ListN.{length, length-drop, getD, drop, drop-of-length-le}
 use lib.Seq.{drop-cons}
 use borrow.Author.Tests.{lt-ltb, le-ltb, le-leb, lt-leb, eq-eqb, ne-eqb}
 use Rattle.base.specs.Pick.{pick}
+use Rattle.base.proofs.Tests.{true-T, and-l, and-r}
 use Rattle.jit.specs.declared.Refusal.{Refusal}
 use Rattle.jit.specs.Limits.{shortestPage, longestPage, longestProgram, mostHelpers}
 use Rattle.jit.specs.Translation.{Inputs, slotsOf, Outcome, no, listed, twice, badHelpers, sizesOf}
-use Rattle.jit_judging.specs.declared.verdict.Verdict.{Verdict}
-use Rattle.jit_judging.specs.declared.verdict.Verdict.the-variants.{Good, Not}
-use Rattle.jit_judging.specs.Sizes.{sized, Sizes}
+use Rattle.jit_walk.specs.declared.verdict.Verdict.{Verdict}
+use Rattle.jit_walk.specs.declared.verdict.Verdict.the-variants.{Good, Not}
+use Rattle.jit_judging.specs.Sizes.{rising, sized, Sizes}
 
 -- one id further
 pub listed-on : (ids : List ℕ) (id k : ℕ) → k < length ids → ¬ (getD ids k 0 ≡ id) → listed id (drop k ids) ≡ listed id (drop (k + 1) ids)
@@ -40,6 +42,43 @@ twice-hit ids k h e f =
 
 pub twice-end : (ids : List ℕ) (k : ℕ) → length ids ≤ k → twice (drop k ids) ≡ false
 twice-end ids k h = rw (drop-of-length-le ids h)
+
+-- of the ids from entry k - 1 on
+module _ (ids : List ℕ) (k : ℕ) (later : 1 ≤ k) (h : k < length ids) where
+  rising-pair : rising (drop (k - 1) ids) ≡ (ltb (getD ids (k - 1) 0) (getD ids k 0) && rising (drop k ids))
+  rising-pair = let e : suc (k - 1) ≡ k = omega arith in rw (drop-cons ids (k - 1) 0 (omega arith), e, drop-cons ids k 0 h)
+
+  pub rising-on : getD ids (k - 1) 0 < getD ids k 0 → rising (drop (k - 1) ids) ≡ rising (drop (k + 1 - 1) ids)
+  rising-on above = let e : k + 1 - 1 ≡ k = omega arith in rw e (rising-pair ∙ rw (lt-ltb _ _ above))
+
+  pub rising-fall : getD ids k 0 ≤ getD ids (k - 1) 0 → rising (drop (k - 1) ids) ≡ false
+  rising-fall below = rising-pair ∙ rw (le-ltb _ _ below)
+
+pub rising-end : (ids : List ℕ) (k : ℕ) → length ids ≤ k → rising (drop (k - 1) ids) ≡ true
+rising-end ids k h = short (drop (k - 1) ids) (rw length-drop (omega arith))
+  where
+    short : (ids : List ℕ) → length ids ≤ 1 → rising ids ≡ true
+    short [] h = refl
+    short (x ∷ []) h = refl
+    short (x ∷ y ∷ ys) h = absurd (omega arith)
+
+-- In rising order no id stands twice: all that follow the first are above it, and they rise too.
+rising-past : (w x : ℕ) (xs : List ℕ) → w ≤ x → T (rising (x ∷ xs)) → listed w xs ≡ false
+rising-past w x [] h r = refl
+rising-past w x (y ∷ ys) h r =
+    let above = ltb→lt x y (and-l (ltb x y) _ r) in
+    rw (ne-eqb y w (λ e. omega arith)) (rising-past w y ys (omega arith) (and-r (ltb x y) _ r))
+
+rising-tail : (x : ℕ) (xs : List ℕ) → T (rising (x ∷ xs)) → T (rising xs)
+rising-tail x [] r = tt
+rising-tail x (y ∷ ys) r = and-r (ltb x y) _ r
+
+rising-once : (ids : List ℕ) → T (rising ids) → twice ids ≡ false
+rising-once [] r = refl
+rising-once (x ∷ xs) r = rw (rising-past x x xs (omega arith) r) (rising-once xs (rising-tail x xs r))
+
+pub not-twice : (ids : List ℕ) → rising ids ≡ true → twice ids ≡ false
+not-twice ids e = rising-once ids (true-T _ e)
 
 -- The five tests, one behind the other: what is answered where one fails, and where all are passed.
 -- the page and the program are within the limits

@@ -8,8 +8,8 @@ use Rattle.jit.specs.declared.Bad.the-variants.{Nowhere, At}
 use Rattle.x86.specs.Code.{size}
 use Rattle.jit.specs.Room.{epilogueSize}
 use Rattle.jit.specs.Translation.{at, Walk, refused, done, flat, firstBad}
-use Rattle.jit_judging.specs.declared.verdict.Verdict.{Verdict}
-use Rattle.jit_judging.specs.declared.verdict.Verdict.the-variants.{Good, Not}
+use Rattle.jit_walk.specs.declared.verdict.Verdict.{Verdict}
+use Rattle.jit_walk.specs.declared.verdict.Verdict.the-variants.{Good, Not}
 
 -- a target that goes nowhere is refused
 abbrev pub targetsGood : Bad → Verdict

@@ -8,7 +8,7 @@ use Rattle.base.specs.declared.Position.{Position}
 use Rattle.jit.specs.Passes.{walked}
 use Rattle.jit.specs.Translation as jit
 use Rattle.jit.specs.Translation.{Filter, slotsOf}
-use Rattle.jit_judging.specs.declared.verdict.Verdict.{Verdict}
+use Rattle.jit_walk.specs.declared.verdict.Verdict.{Verdict}
 use Rattle.jit_judging.specs.Judged as J
 use Rattle.jit_judging.specs.Sizes as S
 
@@ -18,6 +18,9 @@ listedFrom ids from id = jit.listed id (drop from (now (ids .entry)))
 
 abbrev pub twice : (ids : Lent) → Bool
 twice ids = jit.twice (now (ids .entry))
+
+abbrev pub rising : (ids : Lent) → Bool
+rising ids = S.rising (now (ids .entry))
 
 abbrev pub Sizes : (prog page locations fields targets : ℕ) → (ids : Lent) → (addresses : ℕ) → Verdict → Type 0
 Sizes prog page locations fields targets ids addresses r = S.Sizes prog page locations fields targets (now (ids .entry)) addresses r

@@ -1,7 +1,7 @@
 -- Refusals 1 to 5, as the code finds them.
 use mathlib.Core.Path.{_≡_}
-use mathlib.Core.Bool.{not, _||_}
-use mathlib.Core.List.{List}
+use mathlib.Core.Bool.{Bool, true, not, _&&_, _||_}
+use mathlib.Core.List.{List, [], _∷_}
 use Prim.Native.Nat.{ℕ, _/_, _<_, _≤_}
 use lib.Dec.{leb, ltb, eqb}
 use lib.ListN.{length}
@@ -9,8 +9,14 @@ use Rattle.base.specs.Pick.{pick}
 use Rattle.jit.specs.declared.Refusal.{Refusal}
 use Rattle.jit.specs.Limits.{shortestPage, longestPage, longestProgram, mostHelpers}
 use Rattle.jit.specs.Translation.{twice}
-use Rattle.jit_judging.specs.declared.verdict.Verdict.{Verdict}
-use Rattle.jit_judging.specs.declared.verdict.Verdict.the-variants.{Good, Not}
+use Rattle.jit_walk.specs.declared.verdict.Verdict.{Verdict}
+use Rattle.jit_walk.specs.declared.verdict.Verdict.the-variants.{Good, Not}
+
+-- each id is above the one before it
+abbrev pub rising : List ℕ → Bool
+rising [] = true
+rising (x ∷ []) = true
+rising (x ∷ y ∷ ys) = ltb x y && rising (y ∷ ys)
 
 -- the five tests, over lengths
 abbrev pub sized : (prog page locations fields targets : ℕ) → (ids : List ℕ) → (addresses : ℕ) → Verdict

@@ -1,28 +1,34 @@
-// Refusals 6 to 14: the quick check first, and the measuring pass where it has a doubt.
+// Refusals 6 to 14: the quick check first, and the measuring pass where it is not sure.
 ghost use mathlib.Core.Path.{_≡_};
 ghost use Rattle.jit.specs.Lent.{filterOf};
 ghost use Rattle.jit.specs.Passes.{WithinLimits};
+ghost use Rattle.jit_walk.specs.Lent.{IsTable};
 ghost use Rattle.jit_judging.specs.Lent.{verdictOf};
-use crate::verdict::Verdict;
 use base::Position;
 use base::Slot;
 use jit::Bad;
 use jit::Refusal;
 use jit_measuring::fits;
+use jit_measuring::fits::Fit;
 use jit_measuring::measure;
 use jit_measuring::measure::Measured;
+use jit_walk::verdict::Verdict;
 
-// `start` is where the first slot's code begins.
-pub fn judge(prog: &[u8], ids: &[u32], addresses: &[u64], page: usize, start: Position) -> Verdict
-    requires { ⌜ WithinLimits prog ids addresses page start ⌝ }
+// By measuring; the epilogue comes behind the slots, and the targets last.
+fn judge_measured(
+    kinds: &[u8; 256],
+    prog: &[u8],
+    ids: &[u32],
+    addresses: &[u64],
+    page: usize,
+    start: Position,
+) -> Verdict
+    requires { ⌜ IsTable kinds × WithinLimits prog ids addresses page start ⌝ }
     ensures { λ r. ⌜ r ≡ verdictOf (filterOf prog ids addresses) page start ⌝ }
 {
-    if fits::fits(prog, ids, addresses, page, start) {
-        return Verdict::Good;
-    }
-    match measure::measure(prog, ids, addresses, page, start) {
+    match measure::measure(kinds, prog, ids, addresses, page, start) {
         Measured::Refused(refusal) => Verdict::Not(refusal),
-        Measured::Done { end, bad, .. } => {
+        Measured::Done { end, bad } => {
             if page < end.offset + jit::EPILOGUE_SIZE {
                 return Verdict::Not(Refusal::NoRoom(Slot {
                     number: prog.len() / 8,
@@ -33,5 +39,24 @@ pub fn judge(prog: &[u8], ids: &[u32], addresses: &[u64], page: usize, start: Po
             }
             Verdict::Good
         }
+    }
+}
+
+// `kinds` is the opcode table, `start` where the first slot's code begins.
+pub fn judge(
+    kinds: &[u8; 256],
+    prog: &[u8],
+    ids: &[u32],
+    addresses: &[u64],
+    page: usize,
+    start: Position,
+) -> Verdict
+    requires { ⌜ IsTable kinds × WithinLimits prog ids addresses page start ⌝ }
+    ensures { λ r. ⌜ r ≡ verdictOf (filterOf prog ids addresses) page start ⌝ }
+{
+    match fits::fits(kinds, prog, ids, addresses, page, start) {
+        Fit::Sure => Verdict::Good,
+        Fit::Not(refusal) => Verdict::Not(refusal),
+        Fit::Unsure => judge_measured(kinds, prog, ids, addresses, page, start),
     }
 }

@@ -1,3 +1,3 @@
 pub mod LengthsLaws
-pub mod MeasuresLaws
+pub mod ByNumber
 pub mod Useless

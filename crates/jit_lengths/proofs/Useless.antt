@@ -1,27 +1,28 @@
 -- What the contracts of the lengths rule out: for each, two wrong answers to one question. A contract is given here as it stands in the
 -- source, of an answer x.
-use mathlib.Core.Path.{_≡_, refl, ap}
-use mathlib.Core.List.{List, [], _∷_}
+use mathlib.Core.Path.{_≡_, refl}
+use mathlib.Core.List.{[], _∷_}
 use Prim.Native.Nat.{ℕ, _≤_}
 use native.Mathlib.Omega.{arith}
-use lib.ListN.{length, getD}
+use lib.ListN.{length}
 use Rattle.base.specs.declared.Width.{Width}
 use Rattle.base.specs.declared.Width.the-variants.{W32, W64}
 use Rattle.base.specs.declared.Size.{Size}
 use Rattle.base.specs.declared.Size.the-variants.{S8, S16, S64}
 use Rattle.ebpf.specs.declared.insn.Insn.{Insn}
+use Rattle.ebpf.specs.declared.kind.Source.{Source}
 use Rattle.ebpf.specs.declared.kind.Source.the-variants.{Imm, Reg}
-use Rattle.ebpf.specs.declared.kind.MulOp.the-variants.{Mul, Div, Mod}
-use Rattle.ebpf.specs.declared.kind.Condition.the-variants.{Jeq}
-use Rattle.ebpf.specs.declared.kind.Kind.{Kind}
-use Rattle.ebpf.specs.declared.kind.Kind.the-variants.{Be, Call, Exit, Ja, Jump, MulDivMod}
+use Rattle.ebpf.specs.declared.kind.MulOp.the-variants.{Div}
+use Rattle.ebpf.specs.declared.kind.Kind.the-variants.{Exit, Le, Mov, MulDivMod}
+use Rattle.ebpf.specs.declared.kind.Lookup.{Lookup}
+use Rattle.ebpf.specs.declared.kind.Lookup.the-variants.{Known}
 use Rattle.x86.specs.Registers.{RAX, RSI, RDI, R8, R13}
+use Rattle.x86.specs.Instr as x86
 use Rattle.x86.specs.Instr.{load, store, storeImm}
 use Rattle.x86.specs.Encode.{rex, memory, bare, short, encodePlain}
 use Rattle.x86.specs.Code.{size}
-use Rattle.jit.specs.Slots.{regOf, targetOf, loadImm, slotCode}
-use Rattle.jit_lengths.specs.Lengths.{Rexed}
-use Rattle.jit_lengths.specs.Measures.{Lists}
+use Rattle.jit.specs.Slots.{regOf, loadImm, swap, callCode}
+use Rattle.jit_lengths.specs.Lengths.{Rexed, operands, SizedBy}
 
 abbrev insn : (dst src off imm : ℕ) → Insn
 insn dst src off imm = record { opc = 0; dst = dst; src = src; off = off; imm = imm }
@@ -48,11 +49,17 @@ StoreImmLength z base disp x = ((i : ℕ) → x ≡ length (encodePlain (storeIm
 abbrev LoadImmLength : (value x : ℕ) → Type 0
 LoadImmLength value x = ((d : ℕ) → x ≡ length (encodePlain (loadImm d value))) × (x ≤ 10)
 
-abbrev SlotLength : Kind → Insn → (value x : ℕ) → Type 0
-SlotLength k i value x = ((slot : ℕ) → x ≡ size (slotCode k slot i value)) × (x ≤ 90)
+abbrev OperandsLength : Width → Source → Insn → (x : ℕ) → Type 0
+OperandsLength w s i x = ((o : x86.Alu) → x ≡ length (encodePlain (operands o w s i))) × (x ≤ 17)
 
-abbrev JumpOf : Kind → (slot : ℕ) → Insn → (jumps target : ℕ) → Type 0
-JumpOf k slot i jumps target = (value : ℕ) → Lists jumps target (slotCode k slot i value)
+abbrev SwapLength : (dst bits x : ℕ) → Type 0
+SwapLength dst bits x = (x ≡ size (swap dst bits)) × (x ≤ 40)
+
+abbrev CallLength : Insn → (value x : ℕ) → Type 0
+CallLength i value x = ((slot : ℕ) → x ≡ size (callCode slot i value)) × (x ≤ 19)
+
+abbrev SlotLength : Lookup → Insn → (x : ℕ) → Type 0
+SlotLength l i x = SizedBy l i x × (x ≤ 90)
 
 -- A REX left out though R8 needs one; one written though no bit of it is set.
 pub rex-lengths : (RexLength 0 0 R8 0 → ⊥) × (RexLength 0 RSI RDI 1 → ⊥)
@@ -89,32 +96,26 @@ pub load-imm-lengths : (LoadImmLength 0x80000000 7 → ⊥) × (LoadImmLength 0x
 unfolding rex loadImm
 load-imm-lengths = (λ h. omega (arith, h .0 0), λ h. omega (arith, h .0 0))
 
--- BE 16 without its 66; a local call that saves three registers; DIV by a register without the jump behind the cleared dst; EXIT as a jump.
-pub slot-lengths :
-    (SlotLength Be (insn 1 0 0 16) 0 9 → ⊥)
-    × ((SlotLength Call (insn 0 1 0 3) 0 15 → ⊥)
-    × ((SlotLength (MulDivMod Div W64 Reg) (insn 1 2 0 0) 0 36 → ⊥)
-    × (SlotLength Exit (insn 0 0 0 0) 0 5 → ⊥)))
+-- A 64-bit addition without its REX; an immediate of one byte.
+pub operands-lengths : (OperandsLength W64 Reg (insn 1 2 0 0) 2 → ⊥) × (OperandsLength W64 Imm (insn 1 0 0 5) 4 → ⊥)
 unfolding rex regOf
-slot-lengths = (λ h. omega (arith, h .0 0), (λ h. omega (arith, h .0 0), (λ h. omega (arith, h .0 0), λ h. omega (arith, h .0 0))))
+operands-lengths = (λ h. omega (arith, h .0 x86.ADD), λ h. omega (arith, h .0 x86.ADD))
 
--- A jump counted from its own slot; one that is not listed; MOD by a register that lists none, MUL that lists one; a helper's call that is
--- listed; two jumps of one slot.
-pub jumps-of :
-    (JumpOf Ja 7 (insn 0 0 3 0) 1 10 → ⊥)
-    × ((JumpOf (Jump Jeq W64 Imm) 7 (insn 1 0 3 0) 0 0 → ⊥)
-    × ((JumpOf (MulDivMod Mod W32 Reg) 7 (insn 1 2 0 0) 0 0 → ⊥)
-    × ((JumpOf (MulDivMod Mul W32 Reg) 7 (insn 1 2 0 0) 1 8 → ⊥)
-    × ((JumpOf Call 7 (insn 0 0 0 3) 1 11 → ⊥)
-    × (JumpOf Ja 7 (insn 0 0 3 0) 2 11 → ⊥)))))
-unfolding targetOf regOf
-jumps-of = (
-  λ h. omega (arith, ap (λ (t : List ℕ). getD t 0 0) (h 0 .targets)),
-  (
-    λ h. omega (arith, ap length (h 0 .targets)),
-    (
-      λ h. omega (arith, ap length (h 0 .targets)),
-      (λ h. omega (arith, ap length (h 0 .targets)), (λ h. omega (arith, ap length (h 0 .targets)), λ h. omega (arith, h 0 .few))),
-    ),
-  ),
-)
+-- BE 16 without its 66; BE 64 without REX.W.
+pub swap-lengths : (SwapLength RDI 16 9 → ⊥) × (SwapLength RDI 64 2 → ⊥)
+unfolding rex
+swap-lengths = (λ h. omega (arith, h .0), λ h. omega (arith, h .0))
+
+-- A local call that saves three registers; a helper's address in four bytes where it takes eight.
+pub call-lengths : (CallLength (insn 0 1 0 3) 0 15 → ⊥) × (CallLength (insn 0 0 0 3) 0x7f0000000000 12 → ⊥)
+unfolding rex loadImm
+call-lengths = (λ h. omega (arith, h .0 0), λ h. omega (arith, h .0 0))
+
+-- DIV by a register without the jump behind the cleared dst; EXIT as a jump; LE as an instruction; a copy of 32 bits.
+pub slot-lengths :
+    (SlotLength (Known (MulDivMod Div W64 Reg)) (insn 1 2 0 0) 36 → ⊥)
+    × ((SlotLength (Known Exit) (insn 0 0 0 0) 5 → ⊥)
+    × ((SlotLength (Known Le) (insn 1 0 0 16) 3 → ⊥)
+    × (SlotLength (Known (Mov W32 Reg)) (insn 1 2 0 0) 2 → ⊥)))
+unfolding rex regOf
+slot-lengths = (λ h. omega (arith, h .0 0 0), (λ h. omega (arith, h .0 0 0), (λ h. omega (arith, h .0 0 0), λ h. omega (arith, h .0 0 0))))

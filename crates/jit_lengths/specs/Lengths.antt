@@ -8,6 +8,9 @@ use Rattle.base.specs.declared.Width.{Width}
 use Rattle.x86.specs.Instr.{aluImm}
 use Rattle.x86.specs.Encode.{wide, rex}
 use Rattle.ebpf.specs.declared.insn.Insn.{Insn}
+use Rattle.ebpf.specs.declared.kind.Kind.{Kind}
+use Rattle.ebpf.specs.declared.kind.Lookup.{Lookup}
+use Rattle.ebpf.specs.declared.kind.Lookup.the-variants.{Known, Unimplemented, Unknown}
 use Rattle.ebpf.specs.declared.kind.Source.{Source}
 use Rattle.ebpf.specs.declared.kind.Source.the-variants.{Imm, Reg}
 use Rattle.x86.specs.Registers.{RAX, RDX}
@@ -15,7 +18,8 @@ use Rattle.x86.specs.Instr as x86
 use Rattle.x86.specs.Instr.{alu}
 use Rattle.x86.specs.Code.{size}
 use Rattle.jit.specs.MulDivMod.{saves, restored}
-use Rattle.jit.specs.Slots.{regOf}
+use Rattle.jit.specs.Slots.{regOf, slotCode}
+use Rattle.ebpf.specs.Kinds.{LD-DW-IMM, BE, JA, JUMP, CALL}
 
 -- what `rexed_length` promises of k: a REX prefix and n bytes, whatever they are
 abbrev pub Rexed : Width → (r b n k : ℕ) → Type 0
@@ -29,3 +33,22 @@ operands o w Reg i = alu o w (regOf (i .src)) (regOf (i .dst))
 -- Multiplication, division and modulo: RAX and RDX, saved and restored, and the result that goes to dst, from RAX or from RDX.
 abbrev pub kept : Bool → (dst : ℕ) → ℕ
 kept fromRax dst = size (saves dst) + size (restored dst RDX (not fromRax) ++ restored dst RAX fromRax)
+
+-- r is the length of the code of such a slot, wherever it stands
+abbrev pub Sized : Kind → Insn → (r : ℕ) → Type 0
+Sized k i r = (slot value : ℕ) → r ≡ size (slotCode k slot i value)
+
+-- the same by the opcode's kind, for the opcodes that have one
+abbrev pub SizedBy : Lookup → Insn → (r : ℕ) → Type 0
+SizedBy Unknown i r = Unit {0}
+SizedBy Unimplemented i r = Unit {0}
+SizedBy (Known k) i r = Sized k i r
+
+-- the table's entry of a slot that takes nothing from elsewhere, is translated whatever its fields hold, and lists no jump but one to the
+-- next slot
+pub record Ordinary (number : ℕ) : Type 0 where
+  pub wide : ¬ (number ≡ LD-DW-IMM)
+  pub swaps : ¬ (number ≡ BE)
+  pub ja : ¬ (number ≡ JA)
+  pub jumps : ¬ (number ≡ JUMP)
+  pub calls : ¬ (number ≡ CALL)

@@ -1,4 +1,4 @@
-// The length of each kind of slot: the sums that `emit_slot` would come to.
+// The length of each kind of slot: the sums that `emit_slot` would come to, found by the opcode's entry in the table as it does.
 ghost use mathlib.Core.Path.{_≡_};
 ghost use Prim.Native.Nat.{ℕ, _+_, _≤_, _<_};
 ghost use lib.ListN.{length};
@@ -6,13 +6,19 @@ ghost use Rattle.x86.specs.Code.{size};
 ghost use Rattle.x86.specs.Encode.{encodePlain};
 ghost use Rattle.x86.specs.Instr as x86;
 ghost use Rattle.jit.specs.MulDivMod.{Code, byZero, guard, computed};
-ghost use Rattle.jit.specs.Slots.{shiftCode, movCode, mulDivModCode, swap, callCode, slotCode};
-ghost use Rattle.jit_lengths.specs.Lengths.{operands, kept};
+ghost use Rattle.jit.specs.Slots.{shiftCode, movCode, mulDivModCode, swap, callCode};
+ghost use Rattle.jit_walk.specs.Lent.{SlotRead, insnOf};
+ghost use Rattle.jit_lengths.specs.Lengths.{operands, kept, Ordinary, Sized, SizedBy};
+ghost use Rattle.ebpf.specs.Opcode.{kindOf};
 ghost use Rattle.ebpf.specs.declared.kind.ShiftOp.{ShiftOp};
+ghost use Rattle.ebpf.specs.declared.kind.Kind.the-variants.{LdAbs, LdInd, LdReg, StImm, StReg, Neg};
 use crate::instruction;
+use base::Size;
+use base::Slot;
 use base::Width;
+use ebpf::insn;
 use ebpf::insn::Insn;
-use ebpf::kind::Kind;
+use ebpf::kind;
 use ebpf::kind::MulOp;
 use ebpf::kind::Source;
 use jit_recording::register;
@@ -22,7 +28,7 @@ use x86::RAX;
 use x86::RDX;
 
 // Arithmetic, and the comparison ahead of a jump.
-fn operands_length(width: Width, source: Source, i: Insn) -> usize
+pub fn operands_length(width: Width, source: Source, i: Insn) -> usize
     requires { ⌜ (i .dst < 11) × (i .src < 11) ⌝ }
     ensures { λ r. ⌜ ((o : x86.Alu) → r ≡ length (encodePlain (operands o width source i))) × (r ≤ 17) ⌝ }
 {
@@ -55,7 +61,7 @@ fn mov_length(width: Width, source: Source, i: Insn) -> usize
 }
 
 // BE
-fn swap_length(dst: u8, bits: u32) -> usize
+pub fn swap_length(dst: u8, bits: u32) -> usize
     requires { ⌜ dst < 16 ⌝ }
     ensures { λ r. ⌜ (r ≡ size (swap dst bits)) × (r ≤ 40) ⌝ }
 {
@@ -147,7 +153,7 @@ fn muldivmod_length(op: MulOp, width: Width, source: Source, i: Insn) -> usize
 }
 
 // A helper's address is loaded; a call within the program saves four registers.
-fn call_length(i: Insn, value: u64) -> usize
+pub fn call_length(i: Insn, value: u64) -> usize
     ensures { λ r. ⌜ ((slot : ℕ) → r ≡ size (callCode slot i value)) × (r ≤ 19) ⌝ }
 {
     if i.src == 0 {
@@ -156,29 +162,86 @@ fn call_length(i: Insn, value: u64) -> usize
     19
 }
 
-pub fn slot_length(kind: Kind, i: Insn, value: u64) -> usize
+// Loads and stores, as the handlers of the same names write them.
+fn ld_abs_length(size: Size, i: Insn) -> usize
+    ensures { λ r. ⌜ Sized (LdAbs size) i r × (r ≤ 8) ⌝ }
+{
+    instruction::load_length(size, R10, RAX, i.imm)
+}
+
+fn ld_ind_length(size: Size, i: Insn) -> usize
+    ensures { λ r. ⌜ Sized (LdInd size) i r × (r ≤ 14) ⌝ }
+{
+    6 + instruction::load_length(size, R11, RAX, i.imm)
+}
+
+fn ld_reg_length(size: Size, i: Insn) -> usize
     requires { ⌜ (i .dst < 11) × (i .src < 11) ⌝ }
-    ensures { λ r. ⌜ ((slot : ℕ) → r ≡ size (slotCode kind slot i value)) × (r ≤ 90) ⌝ }
+    ensures { λ r. ⌜ Sized (LdReg size) i r × (r ≤ 8) ⌝ }
 {
     let dst = register::map_register(i.dst);
     let src = register::map_register(i.src);
-    match kind {
-        Kind::LdAbs(size) => instruction::load_length(size, R10, RAX, i.imm),
-        Kind::LdInd(size) => 6 + instruction::load_length(size, R11, RAX, i.imm),
-        Kind::LdDwImm => instruction::load_imm_length(value),
-        Kind::LdReg(size) => instruction::load_length(size, src, dst, i.off),
-        Kind::StImm(size) => instruction::store_imm_length(size, dst, i.off),
-        Kind::StReg(size) => instruction::store_length(size, src, dst, i.off),
-        Kind::Alu(_, width, source) => operands_length(width, source, i),
-        Kind::Shift(_, width, source) => shift_length(width, source, i),
-        Kind::Neg(width) => instruction::rexed_length(width, 0, dst, 2),
-        Kind::MulDivMod(op, width, source) => muldivmod_length(op, width, source, i),
-        Kind::Mov(width, source) => mov_length(width, source, i),
-        Kind::Le => 0,
-        Kind::Be => swap_length(dst, i.imm),
-        Kind::Ja => 5,
-        Kind::Jump(_, width, source) => 6 + operands_length(width, source, i),
-        Kind::Call => call_length(i, value),
-        Kind::Exit => 1,
+    instruction::load_length(size, src, dst, i.off)
+}
+
+fn st_imm_length(size: Size, i: Insn) -> usize
+    requires { ⌜ i .dst < 11 ⌝ }
+    ensures { λ r. ⌜ Sized (StImm size) i r × (r ≤ 12) ⌝ }
+{
+    instruction::store_imm_length(size, register::map_register(i.dst), i.off)
+}
+
+fn st_reg_length(size: Size, i: Insn) -> usize
+    requires { ⌜ (i .dst < 11) × (i .src < 11) ⌝ }
+    ensures { λ r. ⌜ Sized (StReg size) i r × (r ≤ 8) ⌝ }
+{
+    let dst = register::map_register(i.dst);
+    let src = register::map_register(i.src);
+    instruction::store_length(size, src, dst, i.off)
+}
+
+fn neg_length(width: Width, i: Insn) -> usize
+    requires { ⌜ i .dst < 11 ⌝ }
+    ensures { λ r. ⌜ Sized (Neg width) i r × (r ≤ 17) ⌝ }
+{
+    instruction::rexed_length(width, 0, register::map_register(i.dst), 2)
+}
+
+// A slot that is translated whatever its fields hold, and lists no jump but one to the next slot; `number` is its opcode's entry in the
+// table. LE has no code.
+pub fn slot_length(number: u8, opc: u8, prog: &[u8], slot: Slot) -> usize
+    requires { ⌜ SlotRead prog slot opc number × Ordinary number ⌝ }
+    ensures { λ r. ⌜ SizedBy (kindOf opc) (insnOf prog slot) r × (r ≤ 90) ⌝ }
+{
+    match number {
+        kind::KIND_MULDIVMOD => muldivmod_length(
+            kind::mul_of(opc),
+            kind::width_of(opc),
+            kind::source_of(opc),
+            insn::insn_at(prog, slot),
+        ),
+        kind::KIND_LD_ABS => ld_abs_length(kind::size_of(opc), insn::insn_at(prog, slot)),
+        kind::KIND_LD_IND => ld_ind_length(kind::size_of(opc), insn::insn_at(prog, slot)),
+        kind::KIND_LD_REG => ld_reg_length(kind::size_of(opc), insn::insn_at(prog, slot)),
+        kind::KIND_ST_IMM => st_imm_length(kind::size_of(opc), insn::insn_at(prog, slot)),
+        kind::KIND_ST_REG => st_reg_length(kind::size_of(opc), insn::insn_at(prog, slot)),
+        kind::KIND_ALU => operands_length(
+            kind::width_of(opc),
+            kind::source_of(opc),
+            insn::insn_at(prog, slot),
+        ),
+        kind::KIND_SHIFT => shift_length(
+            kind::width_of(opc),
+            kind::source_of(opc),
+            insn::insn_at(prog, slot),
+        ),
+        kind::KIND_NEG => neg_length(kind::width_of(opc), insn::insn_at(prog, slot)),
+        kind::KIND_MOV => mov_length(
+            kind::width_of(opc),
+            kind::source_of(opc),
+            insn::insn_at(prog, slot),
+        ),
+        kind::KIND_EXIT => 1,
+        _ => 0,
     }
 }

@@ -1,76 +1,64 @@
 -- What holds at the head of the measuring loop, how a slot takes it on or ends it, and what it comes to.
-use mathlib.Core.Path.{_≡_, _∙_, refl}
+use mathlib.Core.Path.{_≡_, refl, sym}
 use mathlib.Core.List.{List, [], _∷_, _++_}
 use Prim.Native.Nat.{ℕ, _+_, _*_, _<_, _≤_}
-use native.Mathlib.Omega.{arith}
 use lib.ListN.{length}
-use Rattle.ebpf.specs.Kinds.{numbers}
 use Rattle.jit.specs.declared.Refusal.{Refusal}
 use Rattle.jit.specs.declared.Bad.{Bad}
-use Rattle.jit.specs.declared.Bad.the-variants.{Nowhere}
-use Rattle.x86.specs.Code.{targetsOf}
-use Rattle.jit.specs.Translation.{Filter, Block, stop, go, stepAt, slotsOf, slotsWide, flat, orElse, badIn, firstBad}
+use Rattle.jit.specs.declared.Bad.the-variants.{Nowhere, At}
+use Rattle.jit.specs.Translation.{Filter, at, Block, stop, stepAt, slotsOf, slotsWide, orElse, firstBad}
 use Rattle.jit.specs.Passes.{walkFrom}
-use Rattle.jit.proofs.Bounds.{wide-some}
-use Rattle.jit_lengths.specs.Measures.{targetsIn, Measures}
-use Rattle.jit_walk.proofs.Sofar.{Sofar, begins, stops, too-long, sound, goes-on, ends, jumps-on, bad-on}
+use Rattle.jit_walk.proofs.Sofar.{Sofar, begins, stops, too-long, goes-on, ends, bad-on}
+use Rattle.jit_measuring.specs.declared.measure.Look.{Look}
+use Rattle.jit_measuring.specs.declared.measure.Measured.{Measured}
 use Rattle.jit_measuring.specs.declared.measure.Measured.the-variants.{Refused, Done}
+use Rattle.jit_measuring.specs.Looks.{wideOf, badOf}
 use Rattle.jit_measuring.specs.Measures.{Answers}
+use Rattle.jit_measuring.proofs.LooksLaws.{Went}
+use Rattle.jit_measuring.proofs.Seen.{step-torn}
 
--- at the head of the measuring loop
-pub record Measuring (filter : Filter) (kinds : List ℕ) (page start n slot at jumps : ℕ) (bad : Bad) : Type 0 where
+-- at the head of the loop
+pub record Measuring (filter : Filter) (page start n slot place : ℕ) (bad : Bad) : Type 0 where
   pub bs : List Block
-  pub sofar : Sofar filter page start (walkFrom filter page start) bs slot at
-  pub jumps-are : jumps ≡ 1 + length (targetsOf (flat bs))
-  pub few : jumps ≤ slot + 1
+  pub sofar : Sofar filter page start (walkFrom filter page start) bs slot place
   pub bad-is : bad ≡ firstBad n 0 bs
-  pub n-is : n ≡ slotsOf (filter .program)
-  pub table : kinds ≡ numbers
 
-pub measuring-begins : (filter : Filter) (kinds : List ℕ) (page start n : ℕ) → start ≤ page → n ≡ slotsOf (filter .program) → kinds ≡ numbers
-    → Measuring filter kinds page start n 0 start 1 Nowhere
-measuring-begins filter kinds page start n h e t =
-    record {
-      bs = [];
-      sofar = begins filter page start h;
-      jumps-are = omega arith;
-      few = omega arith;
-      bad-is = refl;
-      n-is = e;
-      table = t;
-    }
+pub measuring-begins : (filter : Filter) (page start n : ℕ) → start ≤ page → Measuring filter page start n 0 start Nowhere
+measuring-begins filter page start n h = record { bs = []; sofar = begins filter page start h; bad-is = refl }
 
-module _ {filter : Filter} {kinds : List ℕ} {page start n slot at jumps : ℕ} {bad : Bad}
-    (m : Measuring filter kinds page start n slot at jumps bad) where
-  pub measuring-stops : (r : Refusal) → 8 * slot < length (filter .program) → stop r ≡ stepAt filter slot
-      → Answers (slotsOf (filter .program)) page start (walkFrom filter page start) (Refused r)
+or-none : (b : Bad) → orElse b Nowhere ≡ b
+or-none Nowhere = refl
+or-none (At s) = refl
+
+module _ {filter : Filter} {page start n slot place : ℕ} {bad : Bad} (m : Measuring filter page start n slot place bad) where
+  abbrev Answer : (r : Measured) → Type 0
+  Answer r = Answers n page start (walkFrom filter page start) r
+
+  pub measuring-stops : (r : Refusal) → 8 * slot < length (filter .program) → stop r ≡ stepAt filter slot → Answer (Refused r)
   measuring-stops r h e = record { answer = rw (stops (m .sofar) r h e); within = tt }
 
-  pub measuring-full : (b : Block) {size′ j t : ℕ} → 8 * slot < length (filter .program) → go b ≡ stepAt filter slot → Measures size′ j t (b .code)
-      → page < at + size′
-      → Answers (slotsOf (filter .program)) page start (walkFrom filter page start) (Refused (Refusal.NoRoom (record { number = slot })))
-  measuring-full b h e q g = record { answer = rw (too-long (m .sofar) b h e (rw (← q .size-is) g)); within = tt }
+  -- bytes are left that are no slot
+  pub measuring-torn : 8 * slot < length (filter .program) → length (filter .program) < 8 * slot + 8 → Answer (Refused (Refusal.Torn (at slot)))
+  measuring-torn h g = measuring-stops (Refusal.Torn (at slot)) h (sym (step-torn filter slot g))
 
-  pub measuring-on : (b : Block) {size′ j t s k : ℕ} {x : Bad} → 8 * slot < length (filter .program) → go b ≡ stepAt filter slot
-      → Measures size′ j t (b .code) → at + size′ ≤ page → s ≡ slot + slotsWide (b .wide) → k ≡ at + size′ → x ≡ orElse bad (badIn n slot (targetsIn j t))
-      → Measuring filter kinds page start n s k (jumps + j) x
-  measuring-on b {size′} {j} {t} h e q g a c y =
-      let one = sound (m .sofar) b e .jumps in
-      rw (a, c, q .size-is)
-      (record {
-        bs = m .bs ++ (b ∷ []);
-        sofar = goes-on (m .sofar) b h e (rw (← q .size-is) g);
-        jumps-are = rw (q .jumps-are) (jumps-on (m .sofar) b (m .jumps-are));
-        few = omega (arith, m .few, q .jumps-are, one, wide-some (b .wide));
-        bad-is = y ∙ rw (q .targets-are) (bad-on (m .sofar) b n (m .bad-is));
-        n-is = m .n-is;
-        table = m .table;
-      })
+  module _ (x : Look) (g : Went n slot (stepAt filter slot) x) (h : 8 * slot < length (filter .program)) where
+    pub measuring-full : page < place + x .size → Answer (Refused (Refusal.NoRoom (at slot)))
+    measuring-full f = record { answer = rw (too-long (m .sofar) (g .block) h (g .step) (rw (← g .size-is) f)); within = tt }
 
-  pub measuring-ends : length (filter .program) ≤ 8 * slot
-      → Answers (slotsOf (filter .program)) page start (walkFrom filter page start) (Done (record { offset = at }) jumps bad)
-  measuring-ends h =
-      record {
-        answer = rw (ends (m .sofar) h, m .sofar .place-is, m .jumps-are, m .bad-is, m .n-is);
-        within = (m .sofar .room, omega (arith, m .few, m .sofar .inside));
-      }
+    pub measuring-on : place + x .size ≤ page
+        → Measuring filter page start n (slot + slotsWide (wideOf (x .next))) (place + x .size) (orElse bad (badOf (x .next) slot))
+    measuring-on f =
+        let b = g .block in
+        rw (← g .wide, ← g .bad, g .size-is)
+        (record {
+          bs = m .bs ++ (b ∷ []);
+          sofar = goes-on (m .sofar) b h (g .step) (rw (← g .size-is) f);
+          bad-is = bad-on (m .sofar) b n (m .bad-is);
+        })
+
+  -- where the target is good, `bad` is as it was
+  pub as-before : {s p : ℕ} → Measuring filter page start n s p (orElse bad Nowhere) → Measuring filter page start n s p bad
+  as-before r = rw (or-none bad) at r
+
+  pub measuring-ends : length (filter .program) ≤ 8 * slot → n ≡ slotsOf (filter .program) → Answer (Done (record { offset = place }) bad)
+  measuring-ends h e = record { answer = rw (ends (m .sofar) h, m .sofar .place-is, m .bad-is); within = m .sofar .room }

@@ -1,3 +1,4 @@
+pub mod Looks
 pub mod Measures
 pub mod Fits
 pub mod Lent

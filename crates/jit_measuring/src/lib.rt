@@ -1,3 +1,4 @@
-// What is settled before a byte is written: the quick check, which knows no refusal, and behind it the measuring pass, which finds each.
+// What is settled before a byte is written: the quick check, and behind it the measuring pass, for a page in which the program's room is in
+// doubt or a jump's target is bad.
 pub mod fits;
 pub mod measure;

@@ -1,3 +1,4 @@
+pub mod Sixteen
 pub mod State
 pub mod EmitsLaws
 pub mod RegisterMap

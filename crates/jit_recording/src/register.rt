@@ -14,22 +14,28 @@ use x86::RDI;
 use x86::RDX;
 use x86::RSI;
 
-// Four bits a register, that of r0 lowest.
-const REGISTER_MAP: u64 = RAX as u64
-    | (RDI as u64) << 4
-    | (RSI as u64) << 8
-    | (RDX as u64) << 12
-    | (R9 as u64) << 16
-    | (R8 as u64) << 20
-    | (RBX as u64) << 24
-    | (R13 as u64) << 28
-    | (R14 as u64) << 32
-    | (R15 as u64) << 36
-    | (RBP as u64) << 40;
-
+// Sixteen arms, one for each value of the field, make it a table in read-only memory: no test in front of it, nothing to lay out in a call.
+// No caller asks for what is above 10.
 pub fn map_register(r: u8) -> u8
     requires { ⌜ r < 11 ⌝ }
     ensures { λ x. ⌜ (x ≡ regOf r) × (x < 16) ⌝ }
 {
-    ((REGISTER_MAP >> ((r % 16) as u64 * 4)) % 16) as u8
+    match r % 16 {
+        0 => RAX,
+        1 => RDI,
+        2 => RSI,
+        3 => RDX,
+        4 => R9,
+        5 => R8,
+        6 => RBX,
+        7 => R13,
+        8 => R14,
+        9 => R15,
+        10 => RBP,
+        11 => RAX,
+        12 => RAX,
+        13 => RAX,
+        14 => RAX,
+        _ => RAX,
+    }
 }

@@ -3,17 +3,18 @@ use mathlib.Core.Path.{_≡_, refl, ap}
 use mathlib.Core.List.{List, [], _∷_, _++_}
 use Prim.Native.Nat.{ℕ, _+_, _*_, _/_, _%_, _^_, _<_}
 use native.Mathlib.Omega.{arith}
+use lib.Bits.{bitAnd}
+use lib.Dec.{eqb}
+use Rattle.base.proofs.Table.{agree}
 use Rattle.base.specs.Pick.{pick}
 use Rattle.base.specs.declared.Size.{Size}
 use Rattle.base.specs.declared.Size.the-variants.{S8, S16, S32, S64}
+use Rattle.ebpf.specs.Kinds.{conditionOf}
 use Rattle.ebpf.specs.declared.kind.AluOp.{AluOp}
 use Rattle.ebpf.specs.declared.kind.AluOp.the-variants.{Add, Sub, Or, And, Xor}
-use Rattle.ebpf.specs.declared.kind.Condition.{Condition}
-use Rattle.ebpf.specs.declared.kind.Condition.the-variants.{Jeq, Jgt, Jge, Jset, Jne, Jsgt, Jsge, Jlt, Jle, Jslt, Jsle}
 use Rattle.x86.specs.Instr.{immBits, storeImm, TEST, CMP}
 use Rattle.x86.specs.Encode.{aluImmOpcode, immBytes, encodePlain, prefix66, rex, wideSize, storeImmOpcode, memory}
 use Rattle.jit.specs.Slots.{aluOf, testOf}
-use Rattle.jit_slots.specs.JumpParts.{tests}
 
 -- the five operations have one opcode with an immediate
 pub alu-imm : (o : AluOp) → aluImmOpcode (aluOf o) ≡ 0x81
@@ -38,15 +39,6 @@ trimmed z base disp imm h =
     by S32 = let a : imm % 4294967296 ≡ imm = omega arith in rw a
     by S64 = let a : imm % 4294967296 ≡ imm = omega arith in rw a
 
-pub test-is : (c : Condition) → testOf c ≡ pick (tests c) TEST CMP
-test-is Jeq = refl
-test-is Jgt = refl
-test-is Jge = refl
-test-is Jset = refl
-test-is Jne = refl
-test-is Jsgt = refl
-test-is Jsge = refl
-test-is Jlt = refl
-test-is Jle = refl
-test-is Jslt = refl
-test-is Jsle = refl
+-- of the conditions JSET alone tests
+pub test-is : (o : ℕ) → o < 256 → testOf (conditionOf o) ≡ pick (eqb (bitAnd o 0xf0) 0x40) TEST CMP
+test-is o h = agree (λ o. testOf (conditionOf o)) (λ o. pick (eqb (bitAnd o 0xf0) 0x40) TEST CMP) 256 refl o h

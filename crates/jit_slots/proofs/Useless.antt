@@ -7,13 +7,13 @@ use native.Mathlib.Omega.{arith}
 use lib.ListN.{length, getD}
 use lib.Seq.{getD-set-same}
 use Rattle.base.specs.Bytes.{join}
+use Rattle.base.specs.declared.Width.{Width}
 use Rattle.base.specs.declared.Width.the-variants.{W32, W64}
 use Rattle.base.specs.declared.Size.the-variants.{S8, S16, S32, S64}
+use Rattle.ebpf.specs.Kinds.{aluOf, shiftOf, conditionOf}
 use Rattle.ebpf.specs.declared.insn.Insn.{Insn}
+use Rattle.ebpf.specs.declared.kind.Source.{Source}
 use Rattle.ebpf.specs.declared.kind.Source.the-variants.{Imm, Reg}
-use Rattle.ebpf.specs.declared.kind.AluOp.the-variants.{Add, Sub}
-use Rattle.ebpf.specs.declared.kind.ShiftOp.the-variants.{Rsh, Arsh}
-use Rattle.ebpf.specs.declared.kind.Condition.the-variants.{Jgt, Jset}
 use Rattle.ebpf.specs.declared.kind.Kind.the-variants.{LdAbs, LdInd, LdDwImm, LdReg, StImm, StReg, Neg, Ja}
 use Rattle.x86.specs.Registers.{RAX, RSI, RDI, R10, R11}
 use Rattle.x86.specs.Instr as x86
@@ -21,13 +21,27 @@ use Rattle.x86.specs.Instr.{op, alu, aluImm, shiftImm, shiftCl, unary, movabs, 
 use Rattle.x86.specs.Encode.{encodePlain, rex, modrm, memory, bare, short}
 use Rattle.x86.specs.Code.{to}
 use Rattle.x86.specs.Fill.{blanks}
+use Rattle.jit.specs.MulDivMod.{Code}
 use Rattle.jit.specs.Slots.{regOf, targetOf, loadImm, aluCode, shiftCode, movCode, swap, jumpCode, callCode, slotCode}
 use Rattle.jit_recording.specs.Emits.{Emits, Put}
 use Rattle.x86_emit.proofs.Useless.{Stored, meant, Case, _for_, Refuted, refuted}
 
--- r1 is RDI, r2 RSI
+-- r1 is RDI, r2 RSI; the opcode only where a handler looks at it
+abbrev coded : (opc dst src off imm : ℕ) → Insn
+coded opc dst src off imm = record { opc = opc; dst = dst; src = src; off = off; imm = imm }
+
 abbrev insn : (dst src off imm : ℕ) → Insn
-insn dst src off imm = record { opc = 0; dst = dst; src = src; off = off; imm = imm }
+insn = coded 0
+
+-- what is promised by the handlers that do
+abbrev arithmetic : Width → Source → Insn → List ℕ
+arithmetic w s i = blanks (aluCode (aluOf (i .opc)) w s i)
+
+abbrev shifts : Width → Source → Insn → List ℕ
+shifts w s i = blanks (shiftCode (shiftOf (i .opc)) w s i)
+
+abbrev jumpAt : ℕ → Width → Source → Insn → Code
+jumpAt slot w s i = jumpCode (conditionOf (i .opc)) w s slot i
 
 abbrev plain : x86.Plain → List ℕ
 plain p = blanks (op p ∷ [])
@@ -35,11 +49,11 @@ plain p = blanks (op p ∷ [])
 abbrev pub handled : List Case
 handled =
     -- emit_arithmetic: ADD32_IMM at 64 bits; SUB64_REG with its operands swapped
-    plain (aluImm ADD W64 RDI 5) for blanks (aluCode Add W32 Imm (insn 1 0 0 5))
-    ∷ plain (alu SUB W64 RDI RSI) for blanks (aluCode Sub W64 Reg (insn 1 2 0 0))
-    -- emit_shift: a logical shift for ARSH; a count that is left in its register
-    ∷ plain (shiftImm SHR W64 RDI 3) for blanks (shiftCode Arsh W64 Imm (insn 1 0 0 3))
-    ∷ plain (shiftCl SHR W32 RDI) for blanks (shiftCode Rsh W32 Reg (insn 1 2 0 0))
+    plain (aluImm ADD W64 RDI 5) for arithmetic W32 Imm (coded 0x04 1 0 0 5)
+    ∷ plain (alu SUB W64 RDI RSI) for arithmetic W64 Reg (coded 0x1f 1 2 0 0)
+    -- emit_shift: a logical shift for ARSH64_IMM; a count of RSH32_REG that is left in its register
+    ∷ plain (shiftImm SHR W64 RDI 3) for shifts W64 Imm (coded 0xc7 1 0 0 3)
+    ∷ plain (shiftCl SHR W32 RDI) for shifts W32 Reg (coded 0x7c 1 2 0 0)
     -- emit_neg: at 64 bits; src for dst
     ∷ plain (unary NEG W64 RDI) for blanks (slotCode (Neg W32) 0 (insn 1 2 0 0) 0)
     ∷ plain (unary NEG W64 RSI) for blanks (slotCode (Neg W64) 0 (insn 1 2 0 0) 0)
@@ -88,14 +102,14 @@ module _ {c c′ f f′ t t′ : List ℕ} {at j at′ j′ : ℕ} where
   ja slot i e g h =
       (λ z. omega (arith, z, entry (e .targets) h), (λ z. omega (arith, z, entry (e .fields) g, e .wrote .next), λ z. omega (arith, z, e .targets .next)))
 
-  -- emit_jump: JMP32 compared at 64 bits, JGT taken as signed, JSET compared and not tested; the target and the field as above
-  pub jumps : (slot : ℕ) → Emits c c′ f f′ t t′ at j at′ j′ (jumpCode Jgt W32 Reg slot (insn 1 2 3 0))
+  -- emit_jump: JGT_REG32 compared at 64 bits, and taken as signed; JSET_IMM compared and not tested; the target and the field as above
+  pub jumps : (slot : ℕ) → Emits c c′ f f′ t t′ at j at′ j′ (jumpAt slot W32 Reg (coded 0x2e 1 2 3 0))
       → (Stored c c′ at at′ (blanks (op (alu CMP W64 RSI RDI) ∷ jump (jcc JA) (to 0) ∷ [])) → ⊥)
       × (Stored c c′ at at′ (blanks (op (alu CMP W32 RSI RDI) ∷ jump (jcc JG) (to 0) ∷ [])) → ⊥)
   unfolding rex modrm regOf
   jumps slot e = (λ s. omega (arith, ap join (meant (e .wrote) s)), λ s. omega (arith, ap join (meant (e .wrote) s)))
 
-  pub jset : (slot : ℕ) → Emits c c′ f f′ t t′ at j at′ j′ (jumpCode Jset W64 Imm slot (insn 1 0 3 4)) → j < length f → j < length t
+  pub jset : (slot : ℕ) → Emits c c′ f f′ t t′ at j at′ j′ (jumpAt slot W64 Imm (coded 0x45 1 0 3 4)) → j < length f → j < length t
       → (Stored c c′ at at′ (blanks (op (aluImm CMP W64 RDI 4) ∷ jump (jcc JNE) (to 0) ∷ [])) → ⊥)
       × ((getD t′ j 0 ≡ (slot + 3) % 2 ^ 32 → ⊥) × (getD f′ j 0 ≡ at′ → ⊥))
   unfolding rex modrm regOf targetOf

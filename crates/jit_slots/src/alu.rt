@@ -1,16 +1,16 @@
 // Classes ALU and ALU64, without multiplication and division.
 ghost use mathlib.Core.Path.{_≡_};
 ghost use Prim.Native.Nat.{_<_};
+ghost use Rattle.ebpf.specs.Kinds.{aluOf, shiftOf};
 ghost use Rattle.ebpf.specs.declared.kind.Kind.the-variants.{Neg};
 ghost use Rattle.x86.specs.Fill.{blanks};
 ghost use Rattle.x86.specs.Encode.{aluOpcode, aluExtension, shiftExtension};
 ghost use Rattle.x86_emit.specs.Lent.{Wrote, Fits, FitAll};
-ghost use Rattle.jit.specs.Slots.{slotCode, aluOf, shiftOf, aluCode, shiftCode, movCode, swap, regOf};
+ghost use Rattle.jit.specs.Slots as jit;
+ghost use Rattle.jit.specs.Slots.{slotCode, aluCode, shiftCode, movCode, swap, regOf};
 use base::Position;
 use base::Width;
 use ebpf::insn::Insn;
-use ebpf::kind::AluOp;
-use ebpf::kind::ShiftOp;
 use ebpf::kind::Source;
 use jit_recording::register;
 use x86::ADD;
@@ -37,59 +37,104 @@ use x86::SUB;
 use x86::XOR;
 use x86_emit::alu;
 
-fn alu_opcode(op: AluOp) -> u8
-    ensures { λ r. ⌜ r ≡ aluOpcode (aluOf op) ⌝ }
+// The operation is the upper half of the opcode (RFC 9669, section 4.1, whose names stand behind the arms that a slot of the kind can have;
+// the others answer as the definition does). Sixteen arms, one for each value, make a table in read-only memory: no test in front of it, and
+// no enum that is made only to be matched on.
+fn alu_opcode(opc: u8) -> u8
+    ensures { λ r. ⌜ r ≡ aluOpcode (jit.aluOf (aluOf opc)) ⌝ }
 {
-    match op {
-        AluOp::Add => ADD,
-        AluOp::Sub => SUB,
-        AluOp::Or => OR,
-        AluOp::And => AND,
-        AluOp::Xor => XOR,
+    match opc / 16 {
+        0x0 => ADD, // ADD
+        0x1 => SUB, // SUB
+        0x2 => XOR,
+        0x3 => XOR,
+        0x4 => OR, // OR
+        0x5 => AND, // AND
+        0x6 => XOR,
+        0x7 => XOR,
+        0x8 => XOR,
+        0x9 => XOR,
+        0xa => XOR, // XOR
+        0xb => XOR,
+        0xc => XOR,
+        0xd => XOR,
+        0xe => XOR,
+        _ => XOR,
     }
 }
 
-fn alu_extension(op: AluOp) -> u8
-    ensures { λ r. ⌜ r ≡ aluExtension (aluOf op) ⌝ }
+fn alu_extension(opc: u8) -> u8
+    ensures { λ r. ⌜ r ≡ aluExtension (jit.aluOf (aluOf opc)) ⌝ }
 {
-    match op {
-        AluOp::Add => GROUP1_ADD,
-        AluOp::Sub => GROUP1_SUB,
-        AluOp::Or => GROUP1_OR,
-        AluOp::And => GROUP1_AND,
-        AluOp::Xor => GROUP1_XOR,
+    match opc / 16 {
+        0x0 => GROUP1_ADD, // ADD
+        0x1 => GROUP1_SUB, // SUB
+        0x2 => GROUP1_XOR,
+        0x3 => GROUP1_XOR,
+        0x4 => GROUP1_OR, // OR
+        0x5 => GROUP1_AND, // AND
+        0x6 => GROUP1_XOR,
+        0x7 => GROUP1_XOR,
+        0x8 => GROUP1_XOR,
+        0x9 => GROUP1_XOR,
+        0xa => GROUP1_XOR, // XOR
+        0xb => GROUP1_XOR,
+        0xc => GROUP1_XOR,
+        0xd => GROUP1_XOR,
+        0xe => GROUP1_XOR,
+        _ => GROUP1_XOR,
     }
 }
 
-fn shift_extension(op: ShiftOp) -> u8
-    ensures { λ r. ⌜ r ≡ shiftExtension (shiftOf op) ⌝ }
+fn shift_extension(opc: u8) -> u8
+    ensures { λ r. ⌜ r ≡ shiftExtension (jit.shiftOf (shiftOf opc)) ⌝ }
 {
-    match op {
-        ShiftOp::Lsh => GROUP2_SHL,
-        ShiftOp::Rsh => GROUP2_SHR,
-        ShiftOp::Arsh => GROUP2_SAR,
+    match opc / 16 {
+        0x0 => GROUP2_SAR,
+        0x1 => GROUP2_SAR,
+        0x2 => GROUP2_SAR,
+        0x3 => GROUP2_SAR,
+        0x4 => GROUP2_SAR,
+        0x5 => GROUP2_SAR,
+        0x6 => GROUP2_SHL, // LSH
+        0x7 => GROUP2_SHR, // RSH
+        0x8 => GROUP2_SAR,
+        0x9 => GROUP2_SAR,
+        0xa => GROUP2_SAR,
+        0xb => GROUP2_SAR,
+        0xc => GROUP2_SAR, // ARSH
+        0xd => GROUP2_SAR,
+        0xe => GROUP2_SAR,
+        _ => GROUP2_SAR,
     }
 }
 
 pub fn emit_arithmetic(
     code: &mut [u8],
     at: Position,
-    op: AluOp,
     width: Width,
     source: Source,
     i: Insn,
 ) -> Position
     requires { ⌜ Fits code at × ((i .dst < 11) × (i .src < 11)) ⌝ }
-    ensures { λ r. ⌜ Wrote code at r (blanks (aluCode op width source i)) ⌝ }
+    ensures { λ r. ⌜ Wrote code at r (blanks (aluCode (aluOf (i .opc)) width source i)) ⌝ }
 {
     let dst = register::map_register(i.dst);
     match source {
-        Source::Imm => alu::emit_alu_imm32(code, at, width, GROUP1, alu_extension(op), dst, i.imm),
+        Source::Imm => alu::emit_alu_imm32(
+            code,
+            at,
+            width,
+            GROUP1,
+            alu_extension(i.opc),
+            dst,
+            i.imm,
+        ),
         Source::Reg => alu::emit_alu(
             code,
             at,
             width,
-            alu_opcode(op),
+            alu_opcode(i.opc),
             register::map_register(i.src),
             dst,
         ),
@@ -97,19 +142,12 @@ pub fn emit_arithmetic(
 }
 
 // RCX is kept free for the count of a shift by a register.
-pub fn emit_shift(
-    code: &mut [u8],
-    at: Position,
-    op: ShiftOp,
-    width: Width,
-    source: Source,
-    i: Insn,
-) -> Position
-    requires { ⌜ FitAll code at (shiftCode op width source i) × ((i .dst < 11) × (i .src < 11)) ⌝ }
-    ensures { λ r. ⌜ Wrote code at r (blanks (shiftCode op width source i)) ⌝ }
+pub fn emit_shift(code: &mut [u8], at: Position, width: Width, source: Source, i: Insn) -> Position
+    requires { ⌜ FitAll code at (shiftCode (shiftOf (i .opc)) width source i) × ((i .dst < 11) × (i .src < 11)) ⌝ }
+    ensures { λ r. ⌜ Wrote code at r (blanks (shiftCode (shiftOf (i .opc)) width source i)) ⌝ }
 {
     let dst = register::map_register(i.dst);
-    let extension = shift_extension(op);
+    let extension = shift_extension(i.opc);
     match source {
         Source::Imm => alu::emit_alu_imm8(
             code,

@@ -1,19 +1,23 @@
 // Classes JMP and JMP32.
 ghost use mathlib.Core.Path.{_≡_};
 ghost use Prim.Native.Nat.{_+_, _<_, _^_};
+ghost use Rattle.base.specs.Pick.{pick};
+ghost use Rattle.ebpf.specs.Kinds.{conditionOf};
 ghost use Rattle.ebpf.specs.declared.kind.Kind.the-variants.{Ja};
+ghost use Rattle.x86.specs.Instr as x86;
 ghost use Rattle.x86.specs.Fill.{blanks};
 ghost use Rattle.x86.specs.Encode.{condNumber, encodePlain};
 ghost use Rattle.x86_emit.specs.Lent.{Wrote, Fits, FitAll};
-ghost use Rattle.jit.specs.Slots.{slotCode, condOf, compare, jumpCode, helperCall, localCall, callCode};
-ghost use Rattle.jit_slots.specs.JumpParts.{tests, callSaves, callRestores};
+ghost use Rattle.jit.specs.Slots.{slotCode, condOf, testOf, compare, jumpCode, helperCall, localCall, callCode};
+ghost use Rattle.jit_slots.specs.JumpParts.{callSaves, callRestores};
 ghost use Rattle.jit_recording.specs.Lent.{Emits, Room};
 use crate::load;
 use base::Position;
 use base::Slot;
 use base::Width;
+use ebpf::constants::BPF_ALU_OP_MASK;
+use ebpf::constants::BPF_JSET;
 use ebpf::insn::Insn;
-use ebpf::kind::Condition;
 use ebpf::kind::Source;
 use jit_recording::emission;
 use jit_recording::emission::Emission;
@@ -62,57 +66,43 @@ pub fn emit_ja(
     emission::record_jump(fields, targets, next, e.jumps, target)
 }
 
-// The second byte of Jcc's opcode.
-fn condition_byte(condition: Condition) -> u8
-    ensures { λ r. ⌜ r ≡ 0x80 + condNumber (condOf condition) ⌝ }
+// The second byte of Jcc's opcode, by the upper half of the slot's (RFC 9669, section 4.3), in sixteen arms as in alu.rt.
+fn condition_byte(opc: u8) -> u8
+    ensures { λ r. ⌜ r ≡ 0x80 + condNumber (condOf (conditionOf opc)) ⌝ }
 {
-    match condition {
-        Condition::Jeq => JE,
-        Condition::Jgt => JA,
-        Condition::Jge => JAE,
-        Condition::Jset => JNE,
-        Condition::Jne => JNE,
-        Condition::Jsgt => JG,
-        Condition::Jsge => JGE,
-        Condition::Jlt => JB,
-        Condition::Jle => JBE,
-        Condition::Jslt => JL,
-        Condition::Jsle => JLE,
+    match opc / 16 {
+        0x0 => JLE,
+        0x1 => JE, // JEQ
+        0x2 => JA, // JGT
+        0x3 => JAE, // JGE
+        0x4 => JNE, // JSET
+        0x5 => JNE, // JNE
+        0x6 => JG, // JSGT
+        0x7 => JGE, // JSGE
+        0x8 => JLE,
+        0x9 => JLE,
+        0xa => JB, // JLT
+        0xb => JBE, // JLE
+        0xc => JL, // JSLT
+        0xd => JLE, // JSLE
+        0xe => JLE,
+        _ => JLE,
     }
 }
 
 // JSET tests, the others compare.
-fn is_test(condition: Condition) -> bool
-    ensures { λ r. ⌜ r ≡ tests condition ⌝ }
+fn is_test(opc: u8) -> bool
+    ensures { λ r. ⌜ testOf (conditionOf opc) ≡ pick r x86.TEST x86.CMP ⌝ }
 {
-    match condition {
-        Condition::Jeq => false,
-        Condition::Jgt => false,
-        Condition::Jge => false,
-        Condition::Jset => true,
-        Condition::Jne => false,
-        Condition::Jsgt => false,
-        Condition::Jsge => false,
-        Condition::Jlt => false,
-        Condition::Jle => false,
-        Condition::Jslt => false,
-        Condition::Jsle => false,
-    }
+    opc & BPF_ALU_OP_MASK == BPF_JSET
 }
 
-fn emit_compare(
-    code: &mut [u8],
-    at: Position,
-    condition: Condition,
-    width: Width,
-    source: Source,
-    i: Insn,
-) -> Position
+fn emit_compare(code: &mut [u8], at: Position, width: Width, source: Source, i: Insn) -> Position
     requires { ⌜ Fits code at × ((i .dst < 11) × (i .src < 11)) ⌝ }
-    ensures { λ r. ⌜ Wrote code at r (encodePlain (compare condition width source i)) ⌝ }
+    ensures { λ r. ⌜ Wrote code at r (encodePlain (compare (conditionOf (i .opc)) width source i)) ⌝ }
 {
     let dst = register::map_register(i.dst);
-    let test = is_test(condition);
+    let test = is_test(i.opc);
     match source {
         Source::Imm => {
             if test {
@@ -135,19 +125,18 @@ pub fn emit_jump(
     fields: &mut [u32],
     targets: &mut [u32],
     e: Emission,
-    condition: Condition,
     width: Width,
     source: Source,
     slot: Slot,
     i: Insn,
 ) -> Emission
-    requires { ⌜ Room code fields targets e (jumpCode condition width source (slot .number) i) ⌝ }
+    requires { ⌜ Room code fields targets e (jumpCode (conditionOf (i .opc)) width source (slot .number) i) ⌝ }
     requires { ⌜ (i .dst < 11) × ((i .src < 11) × (slot .number < 2 ^ 16)) ⌝ }
-    ensures { λ r. ⌜ Emits code fields targets e r (jumpCode condition width source (slot .number) i) ⌝ }
+    ensures { λ r. ⌜ Emits code fields targets e r (jumpCode (conditionOf (i .opc)) width source (slot .number) i) ⌝ }
 {
     let target = emission::target_of(slot, i.off);
-    let compared = emit_compare(code, e.at, condition, width, source, i);
-    let next = jump::emit_jcc(code, compared, condition_byte(condition), 0);
+    let compared = emit_compare(code, e.at, width, source, i);
+    let next = jump::emit_jcc(code, compared, condition_byte(i.opc), 0);
     emission::record_jump(fields, targets, next, e.jumps, target)
 }
 

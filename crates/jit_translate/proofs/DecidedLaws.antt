@@ -25,8 +25,8 @@ use Rattle.jit_judging.specs.Sizes.{Sizes, sized, Fine}
 use Rattle.jit_judging.proofs.SizesLaws.{begins, sizes-begin}
 use Rattle.jit_judging.specs.Judged.{verdictOf}
 use Rattle.jit_judging.proofs.Judging.{is-good, is-not}
-use Rattle.jit_judging.specs.declared.verdict.Verdict.{Verdict}
-use Rattle.jit_judging.specs.declared.verdict.Verdict.the-variants.{Good, Not}
+use Rattle.jit_walk.specs.declared.verdict.Verdict.{Verdict}
+use Rattle.jit_walk.specs.declared.verdict.Verdict.the-variants.{Good, Not}
 use Rattle.jit_translate.specs.Translated.{verdictIn, Decided}
 
 -- It admits one verdict only.

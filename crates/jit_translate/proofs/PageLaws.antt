@@ -12,7 +12,7 @@ use Rattle.jit.specs.Translation.{Inputs, slotsOf, Walk, walkOf, translationOf}
 use Rattle.jit.specs.Passes.{walkFrom}
 use Rattle.jit.proofs.Counted.{all-slots}
 use Rattle.jit_walk.specs.Acceptable.{Acceptable}
-use Rattle.jit_judging.specs.declared.verdict.Verdict.the-variants.{Good}
+use Rattle.jit_walk.specs.declared.verdict.Verdict.the-variants.{Good}
 use Rattle.jit_recording.specs.Emits.{Emits, Room}
 use Rattle.jit_writing.specs.Writes.{Fits, Fitting, Writes}
 use Rattle.jit_translate.specs.declared.translate.Answer.the-variants.{Accepted}

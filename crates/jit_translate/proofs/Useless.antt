@@ -12,7 +12,7 @@ use Rattle.jit.specs.declared.Refusal.{Refusal}
 use Rattle.base.specs.Lists.{over}
 use Rattle.x86.proofs.FillLaws.{take-over}
 use Rattle.jit.specs.Translation.{Inputs, Outcome, no, yes, translationOf}
-use Rattle.jit_judging.specs.declared.verdict.Verdict.the-variants.{Good, Not}
+use Rattle.jit_walk.specs.declared.verdict.Verdict.the-variants.{Good, Not}
 use Rattle.jit_translate.specs.Translated.{codeIn, locationsIn, fieldsIn, targetsIn, Translated, Decided}
 use Rattle.jit_translate.specs.declared.translate.Answer.{Answer}
 use Rattle.jit_translate.specs.declared.translate.Answer.the-variants.{Accepted, Refused}

@@ -5,8 +5,8 @@ use Prim.Native.Nat.{ℕ}
 use lib.ListN.{length}
 use Rattle.base.specs.Lists.{over}
 use Rattle.jit.specs.Translation.{Inputs, Outcome, no, yes, translationOf}
-use Rattle.jit_judging.specs.declared.verdict.Verdict.{Verdict}
-use Rattle.jit_judging.specs.declared.verdict.Verdict.the-variants.{Good, Not}
+use Rattle.jit_walk.specs.declared.verdict.Verdict.{Verdict}
+use Rattle.jit_walk.specs.declared.verdict.Verdict.the-variants.{Good, Not}
 use Rattle.jit_translate.specs.declared.translate.Answer.{Answer}
 use Rattle.jit_translate.specs.declared.translate.Answer.the-variants.{Accepted, Refused}
 

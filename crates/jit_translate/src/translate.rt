@@ -6,18 +6,20 @@ ghost use Rattle.x86.specs.Code.{size};
 ghost use Rattle.jit.specs.Frame.{prologue};
 ghost use Rattle.jit.specs.Room.{longestPrologue};
 ghost use Rattle.jit.specs.Lent.{filterOf};
-ghost use Rattle.jit_judging.specs.declared.verdict.Verdict.the-variants.{Good};
+ghost use Rattle.jit_walk.specs.Lent.{IsTable};
+ghost use Rattle.jit_walk.specs.declared.verdict.Verdict.the-variants.{Good};
 ghost use Rattle.jit_translate.specs.Translated.{Decided};
 ghost use Rattle.jit_translate.specs.Lent.{sized, inputs, asked, Translated};
 ghost use Rattle.jit_translate.specs.HalvesLent.{Begun, Closing, Ended};
 use base::Position;
 use base::Slot;
+use ebpf::kind;
 use jit::Flags;
 use jit::Refusal;
 use jit_judging::judge;
 use jit_judging::sizes;
-use jit_judging::verdict::Verdict;
 use jit_recording::emission::Emission;
+use jit_walk::verdict::Verdict;
 
 pub enum Answer {
     Accepted { length: usize, jumps: usize },
@@ -36,8 +38,9 @@ fn prologue_size(flags: Flags) -> usize
     34
 }
 
-// Whether the program is translated, and if not, why. The four numbers are the lengths of the code buffer and of the tables.
-pub fn decide(
+// Whether the program is translated, and if not, why: `decide` below, by the opcode table, which `translate` lays out once for both halves.
+fn decide_in(
+    kinds: &[u8; 256],
     prog: &[u8],
     flags: Flags,
     ids: &[u32],
@@ -47,6 +50,7 @@ pub fn decide(
     fields: usize,
     targets: usize,
 ) -> Verdict
+    requires { ⌜ IsTable kinds ⌝ }
     ensures { λ r. ⌜ Decided (sized (filterOf prog ids addresses) flags page locations fields targets) r ⌝ }
 {
     match sizes::sizes(
@@ -63,13 +67,41 @@ pub fn decide(
             let start = Position {
                 offset: prologue_size(flags),
             };
-            judge::judge(prog, ids, addresses, page, start)
+            judge::judge(kinds, prog, ids, addresses, page, start)
         }
     }
 }
 
+// The four numbers are the lengths of the code buffer and of the tables.
+pub fn decide(
+    prog: &[u8],
+    flags: Flags,
+    ids: &[u32],
+    addresses: &[u64],
+    page: usize,
+    locations: usize,
+    fields: usize,
+    targets: usize,
+) -> Verdict
+    ensures { λ r. ⌜ Decided (sized (filterOf prog ids addresses) flags page locations fields targets) r ⌝ }
+{
+    let kinds = kind::KINDS;
+    decide_in(
+        &kinds,
+        prog,
+        flags,
+        ids,
+        addresses,
+        page,
+        locations,
+        fields,
+        targets,
+    )
+}
+
 // The prologue and the slots of a program that is accepted.
 fn write_begin(
+    kinds: &[u8; 256],
     prog: &[u8],
     flags: Flags,
     ids: &[u32],
@@ -79,12 +111,14 @@ fn write_begin(
     fields: &mut [u32],
     targets: &mut [u32],
 ) -> Emission
+    requires { ⌜ IsTable kinds ⌝ }
     requires { ⌜ Decided (inputs prog flags ids addresses code locations fields targets) Good ⌝ }
     ensures { λ r. ⌜ Begun (asked prog flags ids addresses code locations fields targets) code locations fields targets r ⌝ }
 {
     let page = code.len();
     let entered = jit_writing::frame::emit_prologue(code, fields, targets, flags);
     jit_writing::write::write_slots(
+        kinds,
         prog,
         ids,
         addresses,
@@ -118,6 +152,7 @@ fn write_end(
 
 // The page and the tables of a program that is accepted.
 pub fn write_page(
+    kinds: &[u8; 256],
     prog: &[u8],
     flags: Flags,
     ids: &[u32],
@@ -127,6 +162,7 @@ pub fn write_page(
     fields: &mut [u32],
     targets: &mut [u32],
 ) -> Answer
+    requires { ⌜ IsTable kinds ⌝ }
     requires { ⌜ Decided (inputs prog flags ids addresses code locations fields targets) Good ⌝ }
     ensures { λ r. ⌜ Translated (asked prog flags ids addresses code locations fields targets) code locations fields targets r ⌝ }
 {
@@ -134,6 +170,7 @@ pub fn write_page(
         number: prog.len() / 8,
     };
     let e = write_begin(
+        kinds,
         prog,
         flags,
         ids,
@@ -165,7 +202,9 @@ pub fn translate(
 ) -> Answer
     ensures { λ r. ⌜ Translated (asked prog flags ids addresses code locations fields targets) code locations fields targets r ⌝ }
 {
-    match decide(
+    let kinds = kind::KINDS;
+    match decide_in(
+        &kinds,
         prog,
         flags,
         ids,
@@ -177,6 +216,7 @@ pub fn translate(
     ) {
         Verdict::Not(refusal) => Answer::Refused(refusal),
         Verdict::Good => write_page(
+            &kinds,
             prog,
             flags,
             ids,

@@ -1,3 +1,5 @@
 pub mod Sofar
-pub mod StepsLaws
+pub mod OperandsLaws
 pub mod Entries
+pub mod NumberedLaws
+pub mod SlotReads

@@ -1,3 +1,4 @@
-pub mod Steps
+pub mod Operands
+pub mod Numbered
 pub mod Acceptable
 pub mod Lent

@@ -1,2 +1,1 @@
-pub mod NumberedLaws
 pub mod Writing

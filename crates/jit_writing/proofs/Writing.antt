@@ -9,7 +9,6 @@ use lib.ListN.{length, getD, set}
 use native.Mathlib.Numerals.{add-one}
 use Rattle.ebpf.specs.Insn.{insnAt}
 use Rattle.ebpf.specs.Kinds.{numbers}
-use Rattle.ebpf.specs.declared.insn.Insn.{Insn}
 use Rattle.jit.specs.declared.Refusal.{Refusal}
 use Rattle.x86.specs.Code.{size, targetsOf}
 use Rattle.x86.specs.Fill.{blanks}
@@ -24,18 +23,17 @@ use Rattle.jit.specs.Passes.{starts}
 use Rattle.jit.proofs.Bounds.{wide-some}
 use Rattle.jit_recording.specs.Emits.{Put, Emits, Room}
 use Rattle.jit_recording.proofs.EmitsLaws.{put-none, puts}
-use Rattle.jit_writing.specs.Numbered.{codeAt, isWide}
-use Rattle.jit_writing.proofs.NumberedLaws.{Written, written}
+use Rattle.jit_walk.specs.Numbered.{SlotRead, codeAt, isWide}
+use Rattle.jit_walk.proofs.NumberedLaws.{Written, written}
 use Rattle.jit_walk.proofs.Sofar.{Sofar, flat-snoc, starts-snoc, begins, stops, sound, goes-on, ends, next-is}
 use Rattle.jit.specs.Limits.{longestPage}
 use Rattle.jit.specs.Room.{epilogueSize}
 use Rattle.jit_writing.specs.Writes.{Fits, Writes}
 
 -- at the head of the writing loop
-pub record Writing (filter : Filter) (kinds : List ℕ) (page start : ℕ) (c₀ c l₀ l f₀ f t₀ t : List ℕ) (slot at jumps : ℕ) : Type 0 where
+pub record Writing (filter : Filter) (page start : ℕ) (c₀ c l₀ l f₀ f t₀ t : List ℕ) (slot at jumps : ℕ) : Type 0 where
   pub bs : List Block
   pub sofar : Sofar filter page start (walkFrom filter page start) bs slot at
-  pub table : kinds ≡ numbers
   pub few : jumps ≤ slot + 1
   pub code : Wrote c₀ c start at (blanks (flat bs))
   pub locations : Put l₀ l 0 slot (starts start bs)
@@ -46,13 +44,11 @@ pub record Writing (filter : Filter) (kinds : List ℕ) (page start : ℕ) (c₀
   pub fields-same : length f ≡ length f₀
   pub targets-same : length t ≡ length t₀
 
-pub writing-begins : (filter : Filter) (kinds : List ℕ) (page start : ℕ) (c l f t : List ℕ) → start ≤ page → kinds ≡ numbers
-    → Writing filter kinds page start c c l l f f t t 0 start 1
-writing-begins filter kinds page start c l f t h e =
+pub writing-begins : (filter : Filter) (page start : ℕ) (c l f t : List ℕ) → start ≤ page → Writing filter page start c c l l f f t t 0 start 1
+writing-begins filter page start c l f t h =
     record {
       bs = [];
       sofar = begins filter page start h;
-      table = e;
       few = omega arith;
       code = nothing;
       locations = put-none;
@@ -63,6 +59,9 @@ writing-begins filter kinds page start c l f t h e =
       fields-same = refl;
       targets-same = refl;
     }
+
+abbrev opcAt : List ℕ → ℕ → ℕ
+opcAt program slot = getD program (8 * slot) 0
 
 -- a block that the walk still has ahead of it fits, since the whole does
 ahead : (w : Walk) (page start : ℕ) (bs : List Block) (b : Block) (v : Walk) → w ≡ joined bs (joined (b ∷ []) v) → Fits w page start
@@ -76,8 +75,8 @@ ahead w page start bs b (done cs) e h =
     parts [] = rw (size-append (b .code) (flat cs)) (omega arith)
     parts (a ∷ xs) = rw (size-append (a .code) (flat (xs ++ (b ∷ cs))), size-append (a .code) (flat xs), parts xs) (omega arith)
 
-module _ {filter : Filter} {kinds : List ℕ} {page start : ℕ} {c₀ c l₀ l f₀ f t₀ t : List ℕ} {slot at jumps : ℕ}
-    (m : Writing filter kinds page start c₀ c l₀ l f₀ f t₀ t slot at jumps)
+module _ {filter : Filter} {page start : ℕ} {c₀ c l₀ l f₀ f t₀ t : List ℕ} {slot at jumps : ℕ}
+    (m : Writing filter page start c₀ c l₀ l f₀ f t₀ t slot at jumps)
     (fit : Fits (walkFrom filter page start) page start) where
   -- a slot of an accepted program is not refused, and its code fits
   pub never-stops : (r : Refusal) → 8 * slot < length (filter .program) → stop r ≡ stepAt filter slot → ⊥
@@ -93,7 +92,7 @@ module _ {filter : Filter} {kinds : List ℕ} {page start : ℕ} {c₀ c l₀ l 
   pub writing-on : {s at′ jumps′ : ℕ} {c′ l′ f′ t′ : List ℕ} (b : Block) → 8 * slot < length (filter .program) → go b ≡ stepAt filter slot
       → Put l l′ slot s (entries at (b .wide)) → s ≡ slot + slotsWide (b .wide) → Emits c c′ f f′ t t′ at jumps at′ jumps′ (b .code)
       → length c′ ≡ length c → length l′ ≡ length l → length f′ ≡ length f → length t′ ≡ length t
-      → Writing filter kinds page start c₀ c′ l₀ l′ f₀ f′ t₀ t′ s at′ jumps′
+      → Writing filter page start c₀ c′ l₀ l′ f₀ f′ t₀ t′ s at′ jumps′
   writing-on {s} {at′} {jumps′} b h e pl q em u v x y =
       let place : at′ ≡ at + size (b .code) = em .wrote .next ∙ rw (length-blanks (b .code)) in
       let one = sound (m .sofar) b e .jumps in
@@ -101,7 +100,6 @@ module _ {filter : Filter} {kinds : List ℕ} {page start : ℕ} {c₀ c l₀ l 
       record {
         bs = m .bs ++ (b ∷ []);
         sofar = rw (q, place) (goes-on (m .sofar) b h e (omega (arith, has-room b h e)));
-        table = m .table;
         few = omega (arith, m .few, more, one, q, wide-some (b .wide));
         code = rw (flat-snoc (m .bs) b, blanks-append (flat (m .bs)) (b .code)) (then (m .code) (em .wrote));
         locations = rw (starts-snoc start (m .bs) b, ← m .sofar .place-is) (puts (m .locations) pl);
@@ -124,22 +122,30 @@ module _ {filter : Filter} {kinds : List ℕ} {page start : ℕ} {c₀ c l₀ l 
   pub next-read : (h : 8 * slot < length (filter .program)) → Written filter slot (next-block h .0)
   next-read h = written filter slot (next-block h .0) (next-block h .1)
 
-  pub next-wide : (h : 8 * slot < length (filter .program)) {i : Insn} {number : ℕ}
-      → i ≡ insnAt (filter .program) slot → i .opc < 256 → number ≡ getD numbers (i .opc) 0 → isWide number ≡ next-block h .0 .wide
-  next-wide h e b q = rw (q, e) (sym (next-read h .wide (rw e at b)))
+  pub next-wide : (h : 8 * slot < length (filter .program)) {opc number : ℕ} → SlotRead (filter .program) slot opc number
+      → isWide number ≡ next-block h .0 .wide
+  next-wide h r = rw (r .numbered .table) (sym (next-read h .wide (r .numbered .opc)))
 
-  pub next-inside : (h : 8 * slot < length (filter .program)) {i : Insn} {number : ℕ}
-      → i ≡ insnAt (filter .program) slot → i .opc < 256 → number ≡ getD numbers (i .opc) 0
+  -- the slot as the pass asks it, of the byte that is its opcode
+  pub next-slot : 8 * slot < length (filter .program) → {number : ℕ} → opcAt (filter .program) slot < 256
+      → number ≡ getD numbers (opcAt (filter .program) slot) 0 → SlotRead (filter .program) slot (opcAt (filter .program) slot) number
+  unfolding insnAt
+  next-slot h b q =
+      let read = next-read h in
+      record { there = read .there; opc-is = refl; numbered = record { table = q; opc = b; dst = read .dst; src = read .src } }
+
+  pub next-inside : (h : 8 * slot < length (filter .program)) {opc number : ℕ} → SlotRead (filter .program) slot opc number
       → 8 * slot + 8 * slotsWide (isWide number) ≤ length (filter .program)
-  next-inside h e b q = rw (next-wide h e b q) (sound (m .sofar) (next-block h .0) (next-block h .1) .inside)
+  next-inside h r = rw (next-wide h r) (sound (m .sofar) (next-block h .0) (next-block h .1) .inside)
 
-  pub next-room : {i : Insn} → 8 * slot < length (filter .program) → i ≡ insnAt (filter .program) slot → page ≤ longestPage → page ≡ length c₀
-      → length (filter .program) / 8 < length f₀ → length (filter .program) / 8 < length t₀ → Room c f t at jumps (codeAt filter slot i)
-  next-room h e p q hf ht =
+  pub next-room : 8 * slot < length (filter .program) → page ≤ longestPage → page ≡ length c₀
+      → length (filter .program) / 8 < length f₀ → length (filter .program) / 8 < length t₀
+      → Room c f t at jumps (codeAt filter slot (insnAt (filter .program) slot))
+  next-room h p q hf ht =
       let b = next-block h .0 in
       let some = wide-some (b .wide) in
       let inside = sound (m .sofar) b (next-block h .1) .inside in
-      rw (e, ← next-read h .code)
+      rw (← next-read h .code)
       (record {
         page = omega (arith, has-room b h (next-block h .1), q, m .page-same);
         field = omega (arith, m .few, inside, some, hf, m .fields-same);
@@ -147,16 +153,15 @@ module _ {filter : Filter} {kinds : List ℕ} {page start : ℕ} {c₀ c l₀ l 
         small = omega (arith, p, q, m .page-same);
       })
 
-  pub writing-next : {next at′ jumps′ number : ℕ} {i : Insn} {c′ l′ f′ t′ : List ℕ}
-      → 8 * slot < length (filter .program) → i ≡ insnAt (filter .program) slot → i .opc < 256 → number ≡ getD numbers (i .opc) 0
+  pub writing-next : {next at′ jumps′ opc number : ℕ} {c′ l′ f′ t′ : List ℕ}
+      → 8 * slot < length (filter .program) → SlotRead (filter .program) slot opc number
       → Put l l′ slot next (entries at (isWide number)) → next ≡ slot + slotsWide (isWide number)
-      → Emits c c′ f f′ t t′ at jumps at′ jumps′ (codeAt filter slot i)
+      → Emits c c′ f f′ t t′ at jumps at′ jumps′ (codeAt filter slot (insnAt (filter .program) slot))
       → length c′ ≡ length c → length l′ ≡ length l → length f′ ≡ length f → length t′ ≡ length t
-      → Writing filter kinds page start c₀ c′ l₀ l′ f₀ f′ t₀ t′ next at′ jumps′
-  writing-next h e b q put is em u v x y =
-      let w = next-wide h e b q in
-      let code = next-read h .code in
-      writing-on (next-block h .0) h (next-block h .1) (rw w at put) (rw w at is) (rw (e, ← code) at em) u v x y
+      → Writing filter page start c₀ c′ l₀ l′ f₀ f′ t₀ t′ next at′ jumps′
+  writing-next h r put is em u v x y =
+      let w = next-wide h r in
+      writing-on (next-block h .0) h (next-block h .1) (rw w at put) (rw w at is) (rw (← next-read h .code) at em) u v x y
 
   pub writing-ends : length (filter .program) ≤ 8 * slot → Writes (walkFrom filter page start) start c₀ c l₀ l f₀ f t₀ t at jumps
   writing-ends h =

@@ -1,22 +1,28 @@
--- What the writing pass asks and promises (Numbered.antt, Writes.antt), of the parameters by their names (base/specs/Lent.antt).
+-- What the writing pass asks and promises (Writes.antt), of the parameters by their names (base/specs/Lent.antt).
 use mathlib.Core.List.{List}
 use Prim.Native.Nat.{ℕ}
 use denote.Ref.{now}
 use Rattle.base.specs.Lent.{Slice, Lent}
 use Rattle.base.specs.declared.Position.{Position}
 use Rattle.base.specs.declared.Slot.{Slot}
+use Rattle.ebpf.specs.Insn.{insnAt}
+use Rattle.ebpf.specs.Opcode.{kindOf}
 use Rattle.ebpf.specs.declared.insn.Insn.{Insn}
 use Rattle.jit.specs.Passes.{walked}
 use Rattle.jit.specs.MulDivMod.{Code}
 use Rattle.jit.specs.Translation.{Filter, slotsOf}
 use Rattle.jit_recording.specs.Emits as E
 use Rattle.jit_recording.specs.declared.emission.Emission.{Emission}
-use Rattle.jit_writing.specs.Numbered as N
+use Rattle.jit_walk.specs.Numbered as N
 use Rattle.jit_writing.specs.Writes as W
 
 -- the code of one of the filter's slots
-abbrev pub codeAt : Filter → Slot → Insn → Code
-codeAt filter slot i = N.codeAt filter (slot .number) i
+abbrev pub codeAt : Filter → Slot → Code
+codeAt filter slot = N.codeAt filter (slot .number) (insnAt (filter .program) (slot .number))
+
+-- .. of a kind that takes nothing from elsewhere and lists no jump
+abbrev pub plainCode : Insn → Code
+plainCode i = N.plainCode (kindOf (i .opc)) i
 
 -- the entries ys stand in `locations` from that slot's on, and r is the slot behind them
 abbrev pub Put : (locations : Lent) → (slot r : Slot) → List ℕ → Type 0

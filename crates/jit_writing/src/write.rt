@@ -5,12 +5,13 @@ ghost use lib.ListN.{length};
 ghost use Rattle.jit.specs.Lent.{filterIn, filterOf};
 ghost use Rattle.jit.specs.Passes.{WithinLimits};
 ghost use Rattle.jit.specs.Translation.{entries, slotsWide};
-ghost use Rattle.jit_writing.specs.Numbered.{isWide};
+ghost use Rattle.jit_walk.specs.Lent.{IsTable};
+ghost use Rattle.jit_walk.specs.Numbered.{isWide};
 ghost use Rattle.jit_writing.specs.Lent.{Fitting, Put, Writes};
 use crate::slot;
 use base::Position;
 use base::Slot;
-use ebpf::insn;
+use ebpf::constants::INSN_SIZE;
 use ebpf::kind;
 use jit_recording::emission::Emission;
 
@@ -30,6 +31,7 @@ fn put_slot(locations: &mut [u32], slot: Slot, at: Position, number: u8) -> Slot
 
 // The slots of a program that is accepted, the first one's code at `start`. The answer is where they end, and how many jumps are listed.
 pub fn write_slots(
+    kinds: &[u8; 256],
     prog: &[u8],
     ids: &[u32],
     addresses: &[u64],
@@ -40,19 +42,18 @@ pub fn write_slots(
     fields: &mut [u32],
     targets: &mut [u32],
 ) -> Emission
-    requires { ⌜ WithinLimits prog ids addresses page start ⌝ }
+    requires { ⌜ IsTable kinds × WithinLimits prog ids addresses page start ⌝ }
     requires { ⌜ Fitting (filterIn prog ids addresses) page start code locations fields targets ⌝ }
     ensures { λ r. ⌜ Writes (filterOf prog ids addresses) page start code locations fields targets r ⌝ }
 {
-    let kinds = kind::KINDS;
     let mut next = Slot { number: 0 };
     let mut e = Emission {
         at: start,
         jumps: 1,
     };
-    while 8 * next.number < prog.len() {
-        let i = insn::insn_at(prog, next);
-        let number = kind::number_in(&kinds, i.opc);
+    while INSN_SIZE * next.number < prog.len() {
+        let opc = prog[INSN_SIZE * next.number];
+        let number = kind::number_in(kinds, opc);
         let at = e.at;
         e = slot::emit_slot(
             code,
@@ -61,7 +62,7 @@ pub fn write_slots(
             e,
             number,
             next,
-            i,
+            opc,
             prog,
             ids,
             addresses,

@@ -1,262 +1,251 @@
-use Rattle.jit_lengths.proofs.LengthsLaws.{alu-size, jump-size, ind-size, neg-size}
-use Rattle.jit.specs.Slots.{regOf, aluOf, testOf}
-use Rattle.x86.specs.Instr.{immBits}
-use Prim.Native.Nat.{_%_, _^_}
-use mathlib.Core.Path.{refl, _∙_}
+use Rattle.jit_lengths.proofs.LengthsLaws.{alu-size}
+use Rattle.jit_lengths.proofs.ByNumber.{no-length, kind-read}
+use Rattle.ebpf.specs.Kinds as opcodes
+use Rattle.jit.specs.Slots.{aluOf}
+use mathlib.Core.Path.{_∙_, refl}
 use native.Mathlib.Omega.{arith}
 use borrow.Author.Needs.{needs}
 use Rattle.jit_lengths.proofs.slot.slot_length.Statement.{statement}
 use Rattle.jit_lengths.proofs.slot.slot_length.Tie as tie
 
-map-register-requires : tie.Need-map-register-requires
-map-register-requires c κs = search needs
+mul-of-requires : tie.Need-mul-of-requires
+mul-of-requires c κs = search needs
 
-map-register-requires-2 : tie.Need-map-register-requires-2
-map-register-requires-2 c κs = search needs
+width-of-requires : tie.Need-width-of-requires
+width-of-requires c κs = search needs
 
-enum-known-kind : tie.Need-enum-known-kind
-enum-known-kind c = search needs
+source-of-requires : tie.Need-source-of-requires
+source-of-requires c κs = search needs
 
-load-length-requires : tie.Need-load-length-requires
-load-length-requires c κs = search needs
-
-enum-known-kind-2 : tie.Need-enum-known-kind-2
-enum-known-kind-2 c = search needs
-
-load-length-requires-2 : tie.Need-load-length-requires-2
-load-length-requires-2 c κs = search needs
-
-add-result : tie.Need-add-result
-add-result c = search needs
-
-enum-told : tie.Need-enum-told
-enum-told c = search needs
-
-load-imm-length-requires : tie.Need-load-imm-length-requires
-load-imm-length-requires c κs = search needs
-
-enum-known-kind-3 : tie.Need-enum-known-kind-3
-enum-known-kind-3 c = search needs
-
-load-length-requires-3 : tie.Need-load-length-requires-3
-load-length-requires-3 c κs = search needs
-
-enum-known-kind-4 : tie.Need-enum-known-kind-4
-enum-known-kind-4 c = search needs
-
-store-imm-length-requires : tie.Need-store-imm-length-requires
-store-imm-length-requires c κs = search needs
-
-enum-known-kind-5 : tie.Need-enum-known-kind-5
-enum-known-kind-5 c = search needs
-
-store-length-requires : tie.Need-store-length-requires
-store-length-requires c κs = search needs
-
-enum-known-kind-6 : tie.Need-enum-known-kind-6
-enum-known-kind-6 c = search needs
-
-operands-length-requires : tie.Need-operands-length-requires
-operands-length-requires c κs = search needs
-
-enum-known-kind-7 : tie.Need-enum-known-kind-7
-enum-known-kind-7 c = search needs
-
-shift-length-requires : tie.Need-shift-length-requires
-shift-length-requires c κs = search needs
-
-enum-known-kind-8 : tie.Need-enum-known-kind-8
-enum-known-kind-8 c = search needs
-
-rexed-length-requires : tie.Need-rexed-length-requires
-rexed-length-requires c κs = search needs
-
-enum-known-kind-9 : tie.Need-enum-known-kind-9
-enum-known-kind-9 c = search needs
+insn-at-requires : tie.Need-insn-at-requires
+insn-at-requires c κs = search needs
 
 muldivmod-length-requires : tie.Need-muldivmod-length-requires
-muldivmod-length-requires c κs = search needs
+muldivmod-length-requires c κs =
+    let read = c .before .before .before .before .before .before .pre .0 .numbered in
+    rw (c .insn-at .ensures) (read .dst, read .src)
 
-enum-known-kind-10 : tie.Need-enum-known-kind-10
-enum-known-kind-10 c = search needs
+size-of-requires : tie.Need-size-of-requires
+size-of-requires c κs = search needs
+
+insn-at-requires-2 : tie.Need-insn-at-requires-2
+insn-at-requires-2 c κs = search needs
+
+ld-abs-length-requires : tie.Need-ld-abs-length-requires
+ld-abs-length-requires c κs = search needs
+
+size-of-requires-2 : tie.Need-size-of-requires-2
+size-of-requires-2 c κs = search needs
+
+insn-at-requires-3 : tie.Need-insn-at-requires-3
+insn-at-requires-3 c κs = search needs
+
+ld-ind-length-requires : tie.Need-ld-ind-length-requires
+ld-ind-length-requires c κs = search needs
+
+size-of-requires-3 : tie.Need-size-of-requires-3
+size-of-requires-3 c κs = search needs
+
+insn-at-requires-4 : tie.Need-insn-at-requires-4
+insn-at-requires-4 c κs = search needs
+
+ld-reg-length-requires : tie.Need-ld-reg-length-requires
+ld-reg-length-requires c κs =
+    let read = c .before .before .before .before .pre .0 .numbered in
+    rw (c .insn-at4 .ensures) (read .dst, read .src)
+
+size-of-requires-4 : tie.Need-size-of-requires-4
+size-of-requires-4 c κs = search needs
+
+insn-at-requires-5 : tie.Need-insn-at-requires-5
+insn-at-requires-5 c κs = search needs
+
+st-imm-length-requires : tie.Need-st-imm-length-requires
+st-imm-length-requires c κs = rw (c .insn-at5 .ensures) (c .before .before .before .before .pre .0 .numbered .dst)
+
+size-of-requires-5 : tie.Need-size-of-requires-5
+size-of-requires-5 c κs = search needs
+
+insn-at-requires-6 : tie.Need-insn-at-requires-6
+insn-at-requires-6 c κs = search needs
+
+st-reg-length-requires : tie.Need-st-reg-length-requires
+st-reg-length-requires c κs =
+    let read = c .before .before .before .before .pre .0 .numbered in
+    rw (c .insn-at6 .ensures) (read .dst, read .src)
+
+width-of-requires-2 : tie.Need-width-of-requires-2
+width-of-requires-2 c κs = search needs
+
+source-of-requires-2 : tie.Need-source-of-requires-2
+source-of-requires-2 c κs = search needs
+
+insn-at-requires-7 : tie.Need-insn-at-requires-7
+insn-at-requires-7 c κs = search needs
+
+operands-length-requires : tie.Need-operands-length-requires
+operands-length-requires c κs =
+    let read = c .before .before .before .before .before .pre .0 .numbered in
+    rw (c .insn-at7 .ensures) (read .dst, read .src)
+
+width-of-requires-3 : tie.Need-width-of-requires-3
+width-of-requires-3 c κs = search needs
+
+source-of-requires-3 : tie.Need-source-of-requires-3
+source-of-requires-3 c κs = search needs
+
+insn-at-requires-8 : tie.Need-insn-at-requires-8
+insn-at-requires-8 c κs = search needs
+
+shift-length-requires : tie.Need-shift-length-requires
+shift-length-requires c κs = rw (c .insn-at8 .ensures) (c .before .before .before .before .before .pre .0 .numbered .dst)
+
+width-of-requires-4 : tie.Need-width-of-requires-4
+width-of-requires-4 c κs = search needs
+
+insn-at-requires-9 : tie.Need-insn-at-requires-9
+insn-at-requires-9 c κs = search needs
+
+neg-length-requires : tie.Need-neg-length-requires
+neg-length-requires c κs = rw (c .insn-at9 .ensures) (c .before .before .before .before .pre .0 .numbered .dst)
+
+width-of-requires-5 : tie.Need-width-of-requires-5
+width-of-requires-5 c κs = search needs
+
+source-of-requires-4 : tie.Need-source-of-requires-4
+source-of-requires-4 c κs = search needs
+
+insn-at-requires-10 : tie.Need-insn-at-requires-10
+insn-at-requires-10 c κs = search needs
 
 mov-length-requires : tie.Need-mov-length-requires
-mov-length-requires c κs = search needs
-
-enum-told-2 : tie.Need-enum-told-2
-enum-told-2 c = search needs
-
-enum-told-3 : tie.Need-enum-told-3
-enum-told-3 c = search needs
-
-swap-length-requires : tie.Need-swap-length-requires
-swap-length-requires c κs = search needs
-
-enum-told-4 : tie.Need-enum-told-4
-enum-told-4 c = search needs
-
-enum-known-kind-11 : tie.Need-enum-known-kind-11
-enum-known-kind-11 c = search needs
-
-operands-length-requires-2 : tie.Need-operands-length-requires-2
-operands-length-requires-2 c κs = search needs
-
-add-result-2 : tie.Need-add-result-2
-add-result-2 c = search needs
-
-enum-told-5 : tie.Need-enum-told-5
-enum-told-5 c = search needs
-
-call-length-requires : tie.Need-call-length-requires
-call-length-requires c κs = search needs
-
-enum-told-6 : tie.Need-enum-told-6
-enum-told-6 c = search needs
+mov-length-requires c κs = rw (c .insn-at10 .ensures) (c .before .before .before .before .before .pre .0 .numbered .dst)
 
 returns : tie.Need-returns
-returns c = rw (c .before .before .kind .given .1) (λ slot. omega (arith, c .load-length .ensures .0), omega (arith, c .load-length .ensures .1))
+returns c =
+    let pre = c .before .before .before .before .before .before .before .pre in
+    let kind = kind-read (pre .0) (c .before .before .before .before .before .match .keys1) in
+    let op = c .before .before .before .before .mul-of .ensures in
+    let width = c .before .before .before .width-of .ensures in
+    rw (kind, ← op, ← width, ← c .before .before .source-of .ensures, ← c .before .insn-at .ensures)
+    (λ slot value. c .muldivmod-length .ensures .0 slot, omega (arith, c .muldivmod-length .ensures .1))
 
 returns-2 : tie.Need-returns-2
 returns-2 c =
-    let kind = c .before .before .kind2 .given in
-    let args = c .before .before .before .before .before .before .args in
-    rw (kind .1)
-    (λ slot. ind-size (kind .0 .0) slot (args .i) (args .value) (c .load-length2 .ensures .0), omega (arith, c .load-length2 .ensures .1))
+    let pre = c .before .before .before .before .before .pre in
+    let kind = kind-read (pre .0) (c .before .before .before .match .keys2) in
+    rw (kind, ← c .before .before .size-of .ensures, ← c .before .insn-at2 .ensures)
+    (c .ld-abs-length .ensures .0, omega (arith, c .ld-abs-length .ensures .1))
 
 returns-3 : tie.Need-returns-3
 returns-3 c =
-    let args = c .before .before .before .before .before .args in
-    rw (c .before .enum-told .given .1)
-    (λ slot. omega (arith, c .load-imm-length .ensures .0 (regOf (args .i .dst))), omega (arith, c .load-imm-length .ensures .1))
+    let pre = c .before .before .before .before .before .pre in
+    let kind = kind-read (pre .0) (c .before .before .before .match .keys3) in
+    rw (kind, ← c .before .before .size-of2 .ensures, ← c .before .insn-at3 .ensures)
+    (c .ld-ind-length .ensures .0, omega (arith, c .ld-ind-length .ensures .1))
 
 returns-4 : tie.Need-returns-4
 returns-4 c =
-    let map-register = c .before .before .before .before .before .map-register .ensures in
-    let map-register′ = c .before .before .before .before .map-register2 .ensures in
-    rw (c .before .before .kind3 .given .1) (
-      λ slot. let e = rw (map-register .0, map-register′ .0) at (c .load-length3 .ensures .0) in
-          omega (arith, e),
-      omega (arith, c .load-length3 .ensures .1),
-    )
+    let pre = c .before .before .before .before .before .pre in
+    let kind = kind-read (pre .0) (c .before .before .before .match .keys4) in
+    rw (kind, ← c .before .before .size-of3 .ensures, ← c .before .insn-at4 .ensures)
+    (c .ld-reg-length .ensures .0, omega (arith, c .ld-reg-length .ensures .1))
 
 returns-5 : tie.Need-returns-5
 returns-5 c =
-    let kind = c .before .before .kind4 .given in
-    let map-register = c .before .before .before .before .before .map-register .ensures in
-    let args = c .before .before .before .before .before .before .args in
-    rw (kind .1) (
-      λ slot. let e = rw (map-register .0) at (c .store-imm-length .ensures .0 (args .i .imm % 2 ^ immBits (kind .0 .0))) in
-          omega (arith, e),
-      omega (arith, c .store-imm-length .ensures .1),
-    )
+    let pre = c .before .before .before .before .before .pre in
+    let kind = kind-read (pre .0) (c .before .before .before .match .keys5) in
+    rw (kind, ← c .before .before .size-of4 .ensures, ← c .before .insn-at5 .ensures)
+    (c .st-imm-length .ensures .0, omega (arith, c .st-imm-length .ensures .1))
 
 returns-6 : tie.Need-returns-6
 returns-6 c =
-    let map-register = c .before .before .before .before .before .map-register .ensures in
-    let map-register′ = c .before .before .before .before .map-register2 .ensures in
-    rw (c .before .before .kind5 .given .1) (
-      λ slot. let e = rw (map-register .0, map-register′ .0) at (c .store-length .ensures .0) in
-          omega (arith, e),
-      omega (arith, c .store-length .ensures .1),
-    )
+    let pre = c .before .before .before .before .before .pre in
+    let kind = kind-read (pre .0) (c .before .before .before .match .keys6) in
+    rw (kind, ← c .before .before .size-of5 .ensures, ← c .before .insn-at6 .ensures)
+    (c .st-reg-length .ensures .0, omega (arith, c .st-reg-length .ensures .1))
 
 returns-7 : tie.Need-returns-7
 returns-7 c =
-    let kind = c .before .before .kind6 .given in
     let args = c .before .before .before .before .before .before .args in
-    rw (kind .1) (
-      λ slot. c .operands-length .ensures .0 (aluOf (kind .0 .0)) ∙ alu-size (kind .0 .0) (kind .0 .1 .0) (kind .0 .1 .1 .0) (args .i),
+    let pre = c .before .before .before .before .before .before .pre in
+    let kind = kind-read (pre .0) (c .before .before .before .before .match .keys7) in
+    let op = opcodes.aluOf (args .opc) in
+    let width = c .before .before .before .width-of2 in
+    let source = c .before .before .source-of2 in
+    rw (kind, ← width .ensures, ← source .ensures, ← c .before .insn-at7 .ensures) (
+      λ slot value. c .operands-length .ensures .0 (aluOf op) ∙ alu-size op (width .result) (source .result) (c .before .insn-at7 .result),
       omega (arith, c .operands-length .ensures .1),
     )
 
 returns-8 : tie.Need-returns-8
 returns-8 c =
-    let kind = c .before .before .kind7 .given in
-    rw (kind .1) (λ slot. c .shift-length .ensures .0 (kind .0 .0), omega (arith, c .shift-length .ensures .1))
+    let pre = c .before .before .before .before .before .before .pre in
+    let kind = kind-read (pre .0) (c .before .before .before .before .match .keys8) in
+    rw (kind, ← c .before .before .before .width-of3 .ensures, ← c .before .before .source-of3 .ensures, ← c .before .insn-at8 .ensures)
+    (λ slot value. c .shift-length .ensures .0 _, omega (arith, c .shift-length .ensures .1))
 
 returns-9 : tie.Need-returns-9
 returns-9 c =
-    let kind = c .before .before .kind8 .given in
-    let args = c .before .before .before .before .before .before .args in
-    let map-register = c .before .before .before .before .before .map-register .ensures in
-    rw (kind .1) (
-      λ slot. neg-size (kind .0 .0) slot (args .i) (args .value) (rw (map-register .0) at (c .rexed-length .ensures .0)),
-      omega (arith, c .rexed-length .ensures .1),
-    )
+    let pre = c .before .before .before .before .before .pre in
+    let kind = kind-read (pre .0) (c .before .before .before .match .keys9) in
+    rw (kind, ← c .before .before .width-of4 .ensures, ← c .before .insn-at9 .ensures)
+    (c .neg-length .ensures .0, omega (arith, c .neg-length .ensures .1))
 
 returns-10 : tie.Need-returns-10
-returns-10 c = rw (c .before .before .kind9 .given .1) (λ slot. c .muldivmod-length .ensures .0 slot, omega (arith, c .muldivmod-length .ensures .1))
+returns-10 c =
+    let pre = c .before .before .before .before .before .before .pre in
+    let kind = kind-read (pre .0) (c .before .before .before .before .match .keys10) in
+    rw (kind, ← c .before .before .before .width-of5 .ensures, ← c .before .before .source-of4 .ensures, ← c .before .insn-at10 .ensures)
+    (λ slot value. c .mov-length .ensures .0, omega (arith, c .mov-length .ensures .1))
 
 returns-11 : tie.Need-returns-11
-returns-11 c = rw (c .before .before .kind10 .given .1) (λ slot. c .mov-length .ensures .0, omega (arith, c .mov-length .ensures .1))
+returns-11 c =
+    let pre = c .before .before .pre in
+    rw (kind-read (pre .0) (c .match .keys11)) (λ slot value. refl, omega arith)
 
 returns-12 : tie.Need-returns-12
-returns-12 c = rw (c .enum-told2 .given .1) (λ slot. refl, omega arith)
-
-returns-13 : tie.Need-returns-13
-returns-13 c =
-    let map-register = c .before .before .before .before .map-register .ensures in
-    rw (c .before .enum-told3 .given .1)
-    (λ slot. rw (map-register .0) at (c .swap-length .ensures .0), omega (arith, c .swap-length .ensures .1))
-
-returns-14 : tie.Need-returns-14
-returns-14 c = rw (c .enum-told4 .given .1) (λ slot. refl, omega arith)
-
-returns-15 : tie.Need-returns-15
-returns-15 c =
-    let kind = c .before .before .kind11 .given in
-    let args = c .before .before .before .before .before .before .args in
-    rw (kind .1) (
-      λ slot.
-          omega (arith, c .operands-length2 .ensures .0 (testOf (kind .0 .0)), jump-size (kind .0 .0) (kind .0 .1 .0) (kind .0 .1 .1 .0) slot (args .i)),
-      omega (arith, c .operands-length2 .ensures .1),
-    )
-
-returns-16 : tie.Need-returns-16
-returns-16 c = rw (c .before .enum-told5 .given .1) (λ slot. c .call-length .ensures .0 slot, omega (arith, c .call-length .ensures .1))
-
-returns-17 : tie.Need-returns-17
-returns-17 c = rw (c .enum-told6 .given .1) (λ slot. refl, omega arith)
+returns-12 c = let pre = c .before .before .pre in (no-length (pre .0) (pre .1) (c .match .rest), omega arith)
 
 pub slot-length-spec : {M : Type 1} → statement M
 slot-length-spec =
     tie.close
     (tie.spec
-    map-register-requires
-    map-register-requires-2
-    enum-known-kind
-    load-length-requires
-    enum-known-kind-2
-    load-length-requires-2
-    add-result
-    enum-told
-    load-imm-length-requires
-    enum-known-kind-3
-    load-length-requires-3
-    enum-known-kind-4
-    store-imm-length-requires
-    enum-known-kind-5
-    store-length-requires
-    enum-known-kind-6
-    operands-length-requires
-    enum-known-kind-7
-    shift-length-requires
-    enum-known-kind-8
-    rexed-length-requires
-    enum-known-kind-9
+    mul-of-requires
+    width-of-requires
+    source-of-requires
+    insn-at-requires
     muldivmod-length-requires
-    enum-known-kind-10
+    size-of-requires
+    insn-at-requires-2
+    ld-abs-length-requires
+    size-of-requires-2
+    insn-at-requires-3
+    ld-ind-length-requires
+    size-of-requires-3
+    insn-at-requires-4
+    ld-reg-length-requires
+    size-of-requires-4
+    insn-at-requires-5
+    st-imm-length-requires
+    size-of-requires-5
+    insn-at-requires-6
+    st-reg-length-requires
+    width-of-requires-2
+    source-of-requires-2
+    insn-at-requires-7
+    operands-length-requires
+    width-of-requires-3
+    source-of-requires-3
+    insn-at-requires-8
+    shift-length-requires
+    width-of-requires-4
+    insn-at-requires-9
+    neg-length-requires
+    width-of-requires-5
+    source-of-requires-4
+    insn-at-requires-10
     mov-length-requires
-    enum-told-2
-    enum-told-3
-    swap-length-requires
-    enum-told-4
-    enum-known-kind-11
-    operands-length-requires-2
-    add-result-2
-    enum-told-5
-    call-length-requires
-    enum-told-6
     returns
     returns-2
     returns-3
@@ -268,9 +257,4 @@ slot-length-spec =
     returns-9
     returns-10
     returns-11
-    returns-12
-    returns-13
-    returns-14
-    returns-15
-    returns-16
-    returns-17)
+    returns-12)

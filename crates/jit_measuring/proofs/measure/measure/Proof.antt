@@ -1,115 +1,143 @@
-use Rattle.jit.proofs.SlotSize.{slot-most, slot-jumps}
-use Rattle.jit.specs.Translation.{wideKind}
-use Rattle.jit.proofs.Bounds.{wide-some}
-use Rattle.jit_measuring.proofs.Measuring.{Measuring, measuring-begins, measuring-stops, measuring-full, measuring-on, measuring-ends}
-use Rattle.jit.specs.Translation.{blockOf}
-use Rattle.ebpf.specs.Opcode.{kindOf}
-use Rattle.ebpf.specs.Kinds.{numbers}
-use mathlib.Core.Path.{refl}
+use Rattle.jit_measuring.proofs.Seen.{tail-none, tail-torn}
 use native.Mathlib.Omega.{arith}
-use lib.ListN.{length}
+use mathlib.Core.Path.{refl, sym, _∙_}
 use Prim.Native.Nat.{_-_}
+use Rattle.jit_measuring.proofs.LooksLaws.{finds-stop, finds-go}
+use Rattle.jit_measuring.proofs.Measuring.{Measuring, measuring-begins, measuring-stops, measuring-torn, measuring-full, measuring-on, as-before, measuring-ends}
 use borrow.Author.Needs.{needs}
 use Rattle.jit_measuring.proofs.measure.measure.Statement.{statement}
 use Rattle.jit_measuring.proofs.measure.measure.Tie as tie
 
 abbrev Inv-loop : tie.InvT-loop
-Inv-loop prog ids addresses page kinds n slot₀ at₀ jumps₀ bad₀ slot at jumps bad =
-    Measuring (record { program = prog; ids = ids; addresses = addresses }) kinds page (at₀ .offset) n (slot .number) (at .offset) jumps bad
+Inv-loop kinds prog ids addresses page n slot₀ at₀ bad₀ slot at bad =
+    Measuring (record { program = prog; ids = ids; addresses = addresses }) page (at₀ .offset) n (slot .number) (at .offset) bad
 
 abbrev μ-loop : tie.MeasureT-loop
-μ-loop prog ids addresses page kinds n slot₀ at₀ jumps₀ bad₀ slot at jumps bad = length prog - slot .number
+μ-loop kinds prog ids addresses page n slot₀ at₀ bad₀ slot at bad = n - slot .number
 
 loop-holds : tie.Need-loop-holds Inv-loop μ-loop
-unfolding numbers kindOf
-loop-holds c = measuring-begins _ _ _ _ _ (search needs) refl refl
+loop-holds c = measuring-begins _ _ _ _ (c .before .before .before .pre .1 .1 .1 .0)
 
-mul-if1 : tie.Need-mul-if1 Inv-loop μ-loop
-mul-if1 c = omega (arith, c .before .before .before .before .before .pre)
+measure-slot-requires : tie.Need-measure-slot-requires Inv-loop μ-loop
+measure-slot-requires c κs =
+    let pre = c .before .before .before .before .before .before .pre in
+    ((pre .0, pre .1 .1 .1 .1), (refl, (c .if1 .taken, omega (arith, pre .1 .0))))
 
-step-requires : tie.Need-step-requires Inv-loop μ-loop
-step-requires c κs =
-    let loop = c .before .before .before .loop in
-    let pre = c .before .before .before .before .before .before .before .pre in
-    record { table = loop .inv .table; pairs = pre .1 .1 .1; small = omega (arith, pre, loop .inv .sofar .inside) }
-
-enum-known-refusal : tie.Need-enum-known-refusal Inv-loop μ-loop
-enum-known-refusal c = search needs
+enum-known-verdict : tie.Need-enum-known-verdict Inv-loop μ-loop
+enum-known-verdict c = search needs
 
 returns : tie.Need-returns Inv-loop μ-loop
 returns c =
-    let loop = c .before .before .before .before .before .before .before .loop in
-    let test = c .before .before .before .before .before .if1 in
-    measuring-stops (loop .inv) _ (test .taken) (rw (c .before .refusal .given .1) at (c .before .before .before .step .ensures .step))
+    let turn = c .before .before .before in
+    let seen = turn .measure-slot in
+    let stop = finds-stop _ _ _ (seen .result) (seen .ensures .0) (c .before .verdict .given .1) in
+    measuring-stops (turn .before .before .before .loop .inv) _ (omega (arith, turn .before .if1 .taken)) stop
 
-enum-known-known : tie.Need-enum-known-known Inv-loop μ-loop
-enum-known-known c = search needs
-
-slot-length-requires : tie.Need-slot-length-requires Inv-loop μ-loop
-slot-length-requires c κs =
-    let pre = c .before .before .before .before .before .before .before .before .before .before .before .pre in
-    let loop = c .before .before .before .before .before .before .before .loop in
-    let regs = rw (c .before .known .given .1) at (c .before .before .before .step .ensures .registers) in
-    (regs .0, (regs .1, omega (arith, pre, loop .inv .sofar .inside)))
+enum-told : tie.Need-enum-told Inv-loop μ-loop
+enum-told c = search needs
 
 add-end : tie.Need-add-end Inv-loop μ-loop
 add-end c =
-    let known = c .before .before .before .before .known .given in
-    let turn = c .before .before .before .before .before .before .before .before in
-    let loop = turn .before .before .loop in
-    let most = slot-most (known .0 .0) (loop .slot .number) (known .0 .1 .0) (known .0 .1 .1 .0) in
-    omega (arith, turn .before .before .before .before .before .before .pre, loop .inv .sofar .room, c .before .before .slot-length .ensures .size-is, most)
+    let turn = c .before .before .before .before in
+    let pre = turn .before .before .before .before .before .before .before .pre in
+    omega (arith, turn .measure-slot .ensures .1, turn .before .before .before .loop .inv .sofar .room, pre .1 .1 .0)
 
 returns-2 : tie.Need-returns-2 Inv-loop μ-loop
 returns-2 c =
-    let known = c .before .before .before .before .before .known .given in
-    let step = c .before .before .before .before .before .before .before .step .ensures in
-    let turn = c .before .before .before .before .before .before .before .before .before in
-    let loop = turn .before .before .loop in
-    measuring-full (loop .inv) (blockOf (known .0 .0) (loop .slot .number) (known .0 .1 .0) (known .0 .1 .1 .0)) (turn .if1 .taken)
-    (rw (known .1) at (step .step)) (c .before .before .before .slot-length .ensures) (c .if2 .taken)
+    let turn = c .before .before .before .before .before in
+    let seen = turn .measure-slot in
+    let went = finds-go _ _ _ (seen .result) (seen .ensures .0) (c .before .before .before .enum-told .given .1) in
+    measuring-full (turn .before .before .before .loop .inv) (seen .result) went (omega (arith, turn .before .if1 .taken)) (c .if2 .taken)
+
+enum-told-2 : tie.Need-enum-told-2 Inv-loop μ-loop
+enum-told-2 c = search needs
+
+add-t19 : tie.Need-add-t19 Inv-loop μ-loop
+add-t19 c =
+    let turn = c .before .before .before .before .before .before .before .before in
+    let pre = turn .before .before .before .before .before .before .before .pre in
+    omega (arith, pre .1 .0, turn .before .if1 .taken)
+
+loop-less : tie.Need-loop-less Inv-loop μ-loop
+loop-less c = omega (arith, c .before .before .before .before .before .before .before .before .before .if1 .taken)
+
+loop-again : tie.Need-loop-again Inv-loop μ-loop
+loop-again c =
+    let turn = c .before .before .before .before .before .before .before .before in
+    let seen = turn .measure-slot in
+    let loop = turn .before .before .before .loop in
+    let went = finds-go _ _ _ (seen .result) (seen .ensures .0) (c .before .before .before .before .before .before .enum-told .given .1) in
+    let on = measuring-on (loop .inv) (seen .result) went (omega (arith, turn .before .if1 .taken)) (c .before .before .before .if2 .left) in
+    as-before (loop .inv) (rw (c .before .enum-told2 .given .1) at on)
+
+enum-told-3 : tie.Need-enum-told-3 Inv-loop μ-loop
+enum-told-3 c = search needs
+
+add-t20 : tie.Need-add-t20 Inv-loop μ-loop
+add-t20 c =
+    let turn = c .before .before .before .before .before .before .before .before in
+    let pre = turn .before .before .before .before .before .before .before .pre in
+    omega (arith, pre .1 .0, turn .before .if1 .taken)
+
+loop-less-2 : tie.Need-loop-less-2 Inv-loop μ-loop
+loop-less-2 c = omega (arith, c .before .before .before .before .before .before .before .before .before .if1 .taken)
+
+loop-again-2 : tie.Need-loop-again-2 Inv-loop μ-loop
+loop-again-2 c =
+    let turn = c .before .before .before .before .before .before .before .before in
+    let seen = turn .measure-slot in
+    let loop = turn .before .before .before .loop in
+    let went = finds-go _ _ _ (seen .result) (seen .ensures .0) (c .before .before .before .before .before .before .enum-told .given .1) in
+    let on = measuring-on (loop .inv) (seen .result) went (omega (arith, turn .before .if1 .taken)) (c .before .before .before .if2 .left) in
+    as-before (loop .inv) (rw (c .before .enum-told3 .given .1) at on)
+
+enum-told-4 : tie.Need-enum-told-4 Inv-loop μ-loop
+enum-told-4 c = search needs
 
 note-bad-requires : tie.Need-note-bad-requires Inv-loop μ-loop
 note-bad-requires c κs = search needs
 
-add-jumps : tie.Need-add-jumps Inv-loop μ-loop
-add-jumps c =
-    let slot-length = c .before .before .before .before .before .slot-length .ensures in
-    let known = c .before .before .before .before .before .before .before .known .given in
-    let turn = c .before .before .before .before .before .before .before .before .before .before .before in
-    let loop = turn .before .before .loop in
-    let one = slot-jumps (known .0 .0) (loop .slot .number) (known .0 .1 .0) (known .0 .1 .1 .0) in
-    omega (arith, turn .before .before .before .before .before .before .pre, loop .inv .few, loop .inv .sofar .inside, slot-length .jumps-are, one)
+add-t21 : tie.Need-add-t21 Inv-loop μ-loop
+add-t21 c =
+    let turn = c .before .before .before .before .before .before .before .before .before in
+    let pre = turn .before .before .before .before .before .before .before .pre in
+    omega (arith, pre .1 .0, turn .before .if1 .taken)
 
-slots-of-requires : tie.Need-slots-of-requires Inv-loop μ-loop
-slots-of-requires c κs = search needs
+loop-less-3 : tie.Need-loop-less-3 Inv-loop μ-loop
+loop-less-3 c = omega (arith, c .before .before .before .before .before .before .before .before .before .before .if1 .taken)
 
-add-next : tie.Need-add-next Inv-loop μ-loop
-add-next c =
-    let turn = c .before .before .before .before .before .before .before .before .before .before .before .before .before in
-    omega (arith, turn .before .before .before .before .before .before .pre, turn .before .before .loop .inv .sofar .inside, c .before .slots-of .ensures .1)
+loop-again-3 : tie.Need-loop-again-3 Inv-loop μ-loop
+loop-again-3 c =
+    let turn = c .before .before .before .before .before .before .before .before .before in
+    let seen = turn .measure-slot in
+    let loop = turn .before .before .before .loop in
+    let went = finds-go _ _ _ (seen .result) (seen .ensures .0) (c .before .before .before .before .before .before .before .enum-told .given .1) in
+    let on = measuring-on (loop .inv) (seen .result) went (omega (arith, turn .before .if1 .taken)) (c .before .before .before .before .if2 .left) in
+    rw (c .before .note-bad .ensures) (rw (c .before .before .enum-told4 .given .1) at on)
 
-loop-less : tie.Need-loop-less Inv-loop μ-loop
-loop-less c =
-    let known = c .before .before .before .before .before .before .before .before .before .known .given in
-    let turn = c .before .before .before .before .before .before .before .before .before .before .before .before .before in
-    let loop = turn .before .before .loop in
-    let some = wide-some (wideKind (known .0 .0)) in
-    omega (arith, turn .before .before .before .before .before .before .pre, turn .if1 .taken, loop .inv .sofar .inside, c .before .slots-of .ensures .0, some)
+tail-of-requires : tie.Need-tail-of-requires Inv-loop μ-loop
+tail-of-requires c κs = search needs
 
-loop-again : tie.Need-loop-again Inv-loop μ-loop
-loop-again c =
-    let slot-length = c .before .before .before .before .before .before .before .slot-length .ensures in
-    let known = c .before .before .before .before .before .before .before .before .before .known .given in
-    let step = c .before .before .before .before .before .before .before .before .before .before .before .step .ensures in
-    let turn = c .before .before .before .before .before .before .before .before .before .before .before .before .before in
-    let loop = turn .before .before .loop in
-    measuring-on (loop .inv) (blockOf (known .0 .0) (loop .slot .number) (known .0 .1 .0) (known .0 .1 .1 .0)) (turn .if1 .taken)
-    (rw (known .1) at (step .step)) slot-length (search needs) (rw (← c .before .slots-of .ensures .0)) refl
-    (c .before .before .before .note-bad .ensures)
+enum-told-5 : tie.Need-enum-told-5 Inv-loop μ-loop
+enum-told-5 c = search needs
+
+enum-told-6 : tie.Need-enum-told-6 Inv-loop μ-loop
+enum-told-6 c = search needs
 
 returns-3 : tie.Need-returns-3 Inv-loop μ-loop
-returns-3 c = measuring-ends (c .before .before .loop .inv) (search needs)
+returns-3 c =
+    let loop = c .before .before .before .before .before .loop in
+    let past = c .before .before .before .if1 .left in
+    let program = c .before .before .before .before .before .before .before .before .before .args .prog .now in
+    let torn = tail-torn program (sym (c .before .before .tail-of .ensures) ∙ c .enum-told6 .given .1) in
+    measuring-torn (loop .inv) (omega (arith, loop .inv .sofar .inside, torn, past)) (omega (arith, past))
+
+returns-4 : tie.Need-returns-4 Inv-loop μ-loop
+returns-4 c =
+    let program = c .before .before .before .before .before .before .before .before .before .args .prog .now in
+    let none = tail-none program (sym (c .before .before .tail-of .ensures) ∙ c .enum-told5 .given .1) in
+    let past = c .before .before .before .if1 .left in
+    measuring-ends (c .before .before .before .before .before .loop .inv) (omega (arith, none, past)) refl
 
 pub measure-spec : {M : Type 1} → statement M
 measure-spec =
@@ -118,18 +146,27 @@ measure-spec =
     Inv-loop
     μ-loop
     loop-holds
-    mul-if1
-    step-requires
-    enum-known-refusal
+    measure-slot-requires
+    enum-known-verdict
     returns
-    enum-known-known
-    slot-length-requires
+    enum-told
     add-end
     returns-2
-    note-bad-requires
-    add-jumps
-    slots-of-requires
-    add-next
+    enum-told-2
+    add-t19
     loop-less
     loop-again
-    returns-3)
+    enum-told-3
+    add-t20
+    loop-less-2
+    loop-again-2
+    enum-told-4
+    note-bad-requires
+    add-t21
+    loop-less-3
+    loop-again-3
+    tail-of-requires
+    enum-told-5
+    enum-told-6
+    returns-3
+    returns-4)

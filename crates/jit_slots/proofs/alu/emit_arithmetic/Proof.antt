@@ -1,4 +1,5 @@
 use Rattle.jit_slots.proofs.SlotCodes.{alu-imm}
+use Rattle.ebpf.specs.Kinds.{aluOf}
 use Rattle.x86_emit.proofs.WroteLaws.{last}
 use borrow.Author.Needs.{needs}
 use Rattle.jit_slots.proofs.alu.emit_arithmetic.Statement.{statement}
@@ -36,7 +37,7 @@ returns c =
     let told = c .before .before .before .before .before .enum-told in
     let map-register = c .before .before .before .before .before .before .before .map-register in
     let start = c .before .before .before .before .before .before .before .before .before in
-    rw (told .given .1, ← map-register .ensures .0, ← c .before .before .before .alu-extension .ensures, alu-imm (start .args .op))
+    rw (told .given .1, ← map-register .ensures .0, ← c .before .before .before .alu-extension .ensures, alu-imm (aluOf (start .args .i .opc)))
     (last (c .before .before .emit-alu-imm32 .ensures))
 
 same-length-2 : tie.Need-same-length-2

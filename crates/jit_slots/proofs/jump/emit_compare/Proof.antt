@@ -1,4 +1,3 @@
-use Rattle.jit_slots.proofs.SlotCodes.{test-is}
 use borrow.Author.Needs.{needs}
 use Rattle.jit_slots.proofs.jump.emit_compare.Statement.{statement}
 use Rattle.jit_slots.proofs.jump.emit_compare.Tie as tie
@@ -24,8 +23,7 @@ returns c =
     let told = c .before .before .before .before .before .enum-told in
     let is-test = c .before .before .before .before .before .before .before .is-test in
     let map-register = c .before .before .before .before .before .before .before .before .map-register in
-    let start = c .before .before .before .before .before .before .before .before .before .before in
-    rw (told .given .1, test-is (start .args .condition), ← is-test .ensures, if1 .taken, ← map-register .ensures .0)
+    rw (told .given .1, is-test .ensures, if1 .taken, ← map-register .ensures .0)
     (c .before .before .emit-alu-imm32 .ensures)
 
 emit-alu-imm32-requires-2 : tie.Need-emit-alu-imm32-requires-2
@@ -50,11 +48,9 @@ returns-2 c =
     let told2 = c .before .before .before .before .before .before .enum-told2 in
     let is-test = c .before .before .before .before .before .before .before .before .is-test in
     let at-map-register = c .before .before .before .before .before .before .before .before .before in
-    let start = at-map-register .before .before in
     rw (
       told2 .given .1,
-      test-is (start .args .condition),
-      ← is-test .ensures,
+      is-test .ensures,
       if2 .taken,
       ← at-map-register .map-register .ensures .0,
       ←
@@ -73,8 +69,7 @@ returns-3 c =
     let told = c .before .before .before .before .before .enum-told in
     let is-test = c .before .before .before .before .before .before .before .is-test in
     let map-register = c .before .before .before .before .before .before .before .before .map-register in
-    let start = c .before .before .before .before .before .before .before .before .before .before in
-    rw (told .given .1, test-is (start .args .condition), ← is-test .ensures, if1 .left, ← map-register .ensures .0)
+    rw (told .given .1, is-test .ensures, if1 .left, ← map-register .ensures .0)
     (c .before .before .emit-alu-imm322 .ensures)
 
 same-length-4 : tie.Need-same-length-4
@@ -87,11 +82,9 @@ returns-4 c =
     let told2 = c .before .before .before .before .before .before .enum-told2 in
     let is-test = c .before .before .before .before .before .before .before .before .is-test in
     let at-map-register = c .before .before .before .before .before .before .before .before .before in
-    let start = at-map-register .before .before in
     rw (
       told2 .given .1,
-      test-is (start .args .condition),
-      ← is-test .ensures,
+      is-test .ensures,
       if2 .left,
       ← at-map-register .map-register .ensures .0,
       ←

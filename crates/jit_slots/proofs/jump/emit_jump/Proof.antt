@@ -1,4 +1,5 @@
 use Rattle.jit.specs.Slots.{compare, condOf}
+use Rattle.ebpf.specs.Kinds.{conditionOf}
 use Rattle.x86.specs.Instr.{op, jcc}
 use mathlib.Core.List.{[], _∷_}
 use Rattle.jit_recording.proofs.EmitsLaws.{jumped}
@@ -40,8 +41,9 @@ returns c =
     let at-emit-compare = at-condition-byte .before .before .before .before in
     let at-target-of = at-emit-compare .before .before in
     let start = at-target-of .before .before .before .before in
-    rw (← at-target-of .target-of .ensures) (jumped (op (compare (start .args .condition) (start .args .width) (start .args .source) (start .args .i)) ∷ [])
-    (jcc (condOf (start .args .condition))) refl
+    let condition = conditionOf (start .args .i .opc) in
+    rw (← at-target-of .target-of .ensures) (jumped (op (compare condition (start .args .width) (start .args .source) (start .args .i)) ∷ [])
+    (jcc (condOf condition)) refl
     (rw (← at-condition-byte .condition-byte .ensures) (then (at-emit-compare .emit-compare .ensures) (last (at-emit-jcc .emit-jcc .ensures))))
     (record-jump .ensures))
 

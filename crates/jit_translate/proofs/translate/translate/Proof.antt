@@ -1,11 +1,15 @@
-use Rattle.jit_translate.proofs.TranslatedLaws.{refuses}
+use Rattle.ebpf.specs.Kinds.{numbers}
+use Rattle.ebpf.specs.Opcode.{kindOf}
 use Rattle.jit_translate.proofs.DecidedLaws.{good, refusal}
+use Rattle.jit_translate.proofs.TranslatedLaws.{refuses}
+use mathlib.Core.Path.{refl}
 use borrow.Author.Needs.{needs}
 use Rattle.jit_translate.proofs.translate.translate.Statement.{statement}
 use Rattle.jit_translate.proofs.translate.translate.Tie as tie
 
-decide-requires : tie.Need-decide-requires
-decide-requires c κs = search needs
+decide-in-requires : tie.Need-decide-in-requires
+unfolding numbers kindOf
+decide-in-requires c κs = refl
 
 enum-known-refusal : tie.Need-enum-known-refusal
 enum-known-refusal c = search needs
@@ -14,10 +18,13 @@ enum-told : tie.Need-enum-told
 enum-told c = search needs
 
 write-page-requires : tie.Need-write-page-requires
-write-page-requires c κs = good (c .before .before .before .before .before .before .decide .ensures) (c .before .before .before .before .enum-told .given .1)
+unfolding numbers kindOf
+write-page-requires c κs =
+    let decided = c .before .before .before .before .before .before .before .decide-in .ensures in
+    (refl, good decided (c .before .before .before .before .before .enum-told .given .1))
 
 returns : tie.Need-returns
-returns c = refuses (refusal (c .before .before .before .decide .ensures) (c .before .refusal .given .1))
+returns c = refuses (refusal (c .before .before .before .decide-in .ensures) (c .before .refusal .given .1))
 
 same-length : tie.Need-same-length
 same-length c = search needs
@@ -38,7 +45,7 @@ pub translate-spec : {M : Type 1} → statement M
 translate-spec =
     tie.close
     (tie.spec
-    decide-requires
+    decide-in-requires
     enum-known-refusal
     enum-told
     write-page-requires

@@ -1,20 +1,20 @@
-use mathlib.Core.Path.{refl}
-use native.Mathlib.Omega.{arith}
 use Rattle.jit_translate.proofs.PageLaws.{prologue-room, slots-bounded, slots-fitting, begun}
+use native.Mathlib.Omega.{arith}
+use mathlib.Core.Path.{refl}
 use borrow.Author.Needs.{needs}
 use Rattle.jit_translate.proofs.translate.write_begin.Statement.{statement}
 use Rattle.jit_translate.proofs.translate.write_begin.Tie as tie
 
 emit-prologue-requires : tie.Need-emit-prologue-requires
-emit-prologue-requires c κs = prologue-room (c .before .before .before .before .before .before .before .before .before .before .pre) refl refl refl
+emit-prologue-requires c κs = prologue-room (c .before .before .before .before .before .before .before .before .before .before .pre .1) refl refl refl
 
 write-slots-requires : tie.Need-write-slots-requires
 write-slots-requires c κs =
     let at-emit-prologue = c .before .before .before .before .before .before .before .before .before .before in
     let start = at-emit-prologue .before .before .before .before .before .before .before .before .before .before .before in
-    let good = start .pre in
+    let good = start .pre .1 in
     let entered = at-emit-prologue .emit-prologue .ensures in
-    (slots-bounded good entered, slots-fitting good entered (omega arith) refl (omega arith) (omega arith))
+    ((start .pre .0, slots-bounded good entered), slots-fitting good entered (omega arith) refl (omega arith) (omega arith))
 
 same-length : tie.Need-same-length
 same-length c = search needs
@@ -33,7 +33,7 @@ returns c =
     let at-write-slots = c .before .before .before .before .before .before .before .before in
     let at-emit-prologue = at-write-slots .before .before .before .before .before .before .before .before .before .before .before in
     let start = at-emit-prologue .before .before .before .before .before .before .before .before .before .before .before in
-    begun (start .pre) (at-emit-prologue .emit-prologue .ensures) (at-write-slots .write-slots .ensures)
+    begun (start .pre .1) (at-emit-prologue .emit-prologue .ensures) (at-write-slots .write-slots .ensures)
 
 pub write-begin-spec : {M : Type 1} → statement M
 write-begin-spec =

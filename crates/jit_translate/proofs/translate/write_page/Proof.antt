@@ -1,6 +1,6 @@
-use mathlib.Core.Path.{refl}
-use native.Mathlib.Omega.{arith}
 use Rattle.jit_translate.proofs.PageLaws.{closing, short, written}
+use native.Mathlib.Omega.{arith}
+use mathlib.Core.Path.{refl}
 use borrow.Author.Needs.{needs}
 use Rattle.jit_translate.proofs.translate.write_page.Statement.{statement}
 use Rattle.jit_translate.proofs.translate.write_page.Tie as tie
@@ -11,15 +11,15 @@ write-begin-requires c κs = search needs
 write-end-requires : tie.Need-write-end-requires
 write-end-requires c κs =
     let at-write-begin = c .before .before .before .before .before .before .before .before .before .before .before .before in
-    let start = at-write-begin .before .before .before .before .before .before .before .before .before .before .before .before in
-    closing (start .pre) (at-write-begin .write-begin .ensures) refl refl refl refl (omega arith) (omega arith) (omega arith) (omega arith)
+    let good = at-write-begin .before .before .before .before .before .before .before .before .before .before .before .before .pre .1 in
+    closing good (at-write-begin .write-begin .ensures) refl refl refl refl (omega arith) (omega arith) (omega arith) (omega arith)
 
 add-length : tie.Need-add-length
 add-length c =
     let far = c .before .before .before .before .before .before .before .before .before .before .before .before in
     let at-write-begin = far .before .before .before .before .before .before in
-    let start = at-write-begin .before .before .before .before .before .before .before .before .before .before .before .before in
-    omega (arith, short (start .pre) (at-write-begin .write-begin .ensures) refl refl refl refl)
+    let good = at-write-begin .before .before .before .before .before .before .before .before .before .before .before .before .pre .1 in
+    omega (arith, short good (at-write-begin .write-begin .ensures) refl refl refl refl)
 
 same-length : tie.Need-same-length
 same-length c = search needs
@@ -37,8 +37,8 @@ returns : tie.Need-returns
 returns c =
     let at-write-end = c .before .before .before .before .before in
     let at-write-begin = at-write-end .before .before .before .before .before .before .before .before .before .before .before .before .before in
-    let start = at-write-begin .before .before .before .before .before .before .before .before .before .before .before .before in
-    written (start .pre) (at-write-begin .write-begin .ensures) refl refl refl refl (omega arith) (at-write-end .write-end .ensures)
+    let good = at-write-begin .before .before .before .before .before .before .before .before .before .before .before .before .pre .1 in
+    written good (at-write-begin .write-begin .ensures) refl refl refl refl (omega arith) (at-write-end .write-end .ensures)
 
 pub write-page-spec : {M : Type 1} → statement M
 write-page-spec =

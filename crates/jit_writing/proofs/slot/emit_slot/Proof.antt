@@ -1,14 +1,17 @@
-use Rattle.jit_writing.specs.Numbered.{Others}
-use Rattle.jit_writing.proofs.NumberedLaws.{looked, others}
-use Rattle.ebpf.specs.Insn.{readAt}
-use Rattle.jit_recording.proofs.EmitsLaws.{onwards}
-use Rattle.jit.specs.Slots.{slotCode}
-use Rattle.ebpf.specs.declared.kind.Kind.the-variants.{LdDwImm}
 use mathlib.Core.Path.{refl}
 use Prim.Native.Nat.{_+_}
+use Rattle.ebpf.specs.Insn.{readAt}
+use Rattle.ebpf.specs.declared.kind.Kind.the-variants.{LdDwImm}
+use Rattle.jit.specs.Slots.{slotCode}
+use Rattle.jit_recording.proofs.EmitsLaws.{onwards}
+use Rattle.jit_walk.proofs.NumberedLaws.{other, others}
+use Rattle.jit_walk.proofs.SlotReads.{kind-at, fields}
 use borrow.Author.Needs.{needs}
 use Rattle.jit_writing.proofs.slot.emit_slot.Statement.{statement}
 use Rattle.jit_writing.proofs.slot.emit_slot.Tie as tie
+
+insn-at-requires : tie.Need-insn-at-requires
+insn-at-requires c κs = search needs
 
 wide-operand-requires : tie.Need-wide-operand-requires
 wide-operand-requires c κs = search needs
@@ -17,7 +20,10 @@ value-in-requires : tie.Need-value-in-requires
 value-in-requires c κs = search needs
 
 emit-ld-dw-imm-requires : tie.Need-emit-ld-dw-imm-requires
-emit-ld-dw-imm-requires c κs = search needs
+emit-ld-dw-imm-requires c κs =
+    let read = c .before .before .before in
+    let given = fields (read .before .before .before .before .before .before .before .before .pre .0 .0) (read .insn-at .ensures) in
+    search needs
 
 onward-requires : tie.Need-onward-requires
 onward-requires c κs = search needs
@@ -31,24 +37,27 @@ width-of-requires c κs = search needs
 source-of-requires : tie.Need-source-of-requires
 source-of-requires c κs = search needs
 
+insn-at-requires-2 : tie.Need-insn-at-requires-2
+insn-at-requires-2 c κs = search needs
+
 emit-muldivmod-requires : tie.Need-emit-muldivmod-requires
 emit-muldivmod-requires c κs =
-    let pre = c .before .before .before .before .before .before .before .before .before .before .before .before .before .pre in
-    let match = c .before .before .before .before .before .before .match in
-    let mul-of = c .before .before .mul-of .ensures in
-    let width-of = c .before .width-of .ensures in
-    let source-of = c .source-of .ensures in (
-      rw (looked (pre .0 .0) (match .keys2), ← mul-of, ← width-of, ← source-of) at (pre .1),
-      (pre .0 .0 .dst, (pre .0 .0 .src, pre .0 .1 .0)),
-    )
+    let matched = c .before .before .before .before .before .before .before in
+    let pre = matched .before .before .before .before .before .before .before .pre in
+    let kind = kind-at (pre .0 .0) (matched .match .keys2) in
+    let insn-at = c .insn-at2 .ensures in
+    let read = fields (pre .0 .0) insn-at in
+    let mul-of = c .before .before .before .mul-of .ensures in
+    (rw (kind, ← mul-of, ← c .before .before .width-of .ensures, ← c .before .source-of .ensures, ← insn-at) at (pre .1), (read .dst, (read .src, pre .0 .1 .0)))
+
+insn-at-requires-3 : tie.Need-insn-at-requires-3
+insn-at-requires-3 c κs = search needs
 
 emit-ja-requires : tie.Need-emit-ja-requires
 emit-ja-requires c κs =
-    let pre = c .before .before .before .before .before .before .before .before .before .before .pre in
-    (rw (looked (pre .0 .0) (c .before .before .before .match .keys3)) at (pre .1), pre .0 .1 .0)
-
-condition-of-requires : tie.Need-condition-of-requires
-condition-of-requires c κs = search needs
+    let matched = c .before .before .before .before in
+    let pre = matched .before .before .before .before .before .before .before .pre in
+    (rw (kind-at (pre .0 .0) (matched .match .keys3), ← c .insn-at3 .ensures) at (pre .1), pre .0 .1 .0)
 
 width-of-requires-2 : tie.Need-width-of-requires-2
 width-of-requires-2 c κs = search needs
@@ -56,16 +65,22 @@ width-of-requires-2 c κs = search needs
 source-of-requires-2 : tie.Need-source-of-requires-2
 source-of-requires-2 c κs = search needs
 
+insn-at-requires-4 : tie.Need-insn-at-requires-4
+insn-at-requires-4 c κs = search needs
+
 emit-jump-requires : tie.Need-emit-jump-requires
 emit-jump-requires c κs =
-    let pre = c .before .before .before .before .before .before .before .before .before .before .before .before .before .pre in
-    let match = c .before .before .before .before .before .before .match in
-    let condition-of = c .before .before .condition-of .ensures in
-    let width-of = c .before .width-of2 .ensures in
-    let source-of = c .source-of2 .ensures in (
-      rw (looked (pre .0 .0) (match .keys4), ← condition-of, ← width-of, ← source-of) at (pre .1),
-      (pre .0 .0 .dst, (pre .0 .0 .src, pre .0 .1 .0)),
+    let matched = c .before .before .before .before .before .before in
+    let pre = matched .before .before .before .before .before .before .before .pre in
+    let kind = kind-at (pre .0 .0) (matched .match .keys4) in
+    let insn-at = c .insn-at4 .ensures in
+    let read = fields (pre .0 .0) insn-at in (
+      rw (kind, ← c .before .before .width-of2 .ensures, ← c .before .source-of2 .ensures, ← insn-at, ← read .opc-is) at (pre .1),
+      (read .dst, (read .src, pre .0 .1 .0)),
     )
+
+insn-at-requires-5 : tie.Need-insn-at-requires-5
+insn-at-requires-5 c κs = search needs
 
 call-operand-requires : tie.Need-call-operand-requires
 call-operand-requires c κs = search needs
@@ -75,26 +90,20 @@ value-in-requires-2 c κs = search needs
 
 emit-call-requires : tie.Need-emit-call-requires
 emit-call-requires c κs =
-    let pre = c .before .before .before .before .before .before .before .before .before .before .before .before .pre in
-    let match = c .before .before .before .before .before .match in
+    let matched = c .before .before .before .before .before .before in
+    let pre = matched .before .before .before .before .before .before .before .pre in
+    let kind = kind-at (pre .0 .0) (matched .match .keys5) in
+    let insn-at = c .before .before .before .before .before .insn-at5 .ensures in
     let call-operand = c .before .before .before .before .call-operand .ensures in
-    (rw (looked (pre .0 .0) (match .keys5), ← call-operand, ← c .before .before .before .value-in2 .ensures) at (pre .1), pre .0 .1 .0)
+    (rw (kind, ← insn-at, ← call-operand, ← c .before .before .before .value-in2 .ensures) at (pre .1), pre .0 .1 .0)
 
 emit-plain-requires : tie.Need-emit-plain-requires
 emit-plain-requires c κs =
     let args = c .before .before .before .before .before .before .before .before .args in
     let pre = c .before .before .before .before .before .before .before .before .pre in
-    let rest = c .before .match .rest in
-    let other : Others (args .number) =
-    record {
-      wide = rest .0 .0 .0 .0 .1;
-      divides = rest .0 .0 .0 .1;
-      ja = rest .0 .0 .1;
-      jumps = rest .0 .1;
-      calls = rest .1;
-    } in
     let behind = readAt (args .prog .now) (args .slot .number + 1) in
-    let plain = others (args .ids .now) (args .addresses .now) (args .slot .number) (args .i) behind (pre .0 .0) other in
+    let other = other (c .before .match .rest) in
+    let plain = others (args .ids .now) (args .addresses .now) (args .slot .number) _ behind (pre .0 .0 .numbered) other in
     ((pre .0 .0, other), rw (plain .same) (pre .1 .page))
 
 onward-requires-2 : tie.Need-onward-requires-2
@@ -105,13 +114,12 @@ same-length c = search needs
 
 returns : tie.Need-returns
 returns c =
-    let pre = c .before .before .before .before .before .before .before .before .before .before .before .before .before .before .pre in
-    let match = c .before .before .before .before .before .before .before .match in
-    let wide-operand = c .before .before .before .before .before .before .wide-operand .ensures in
+    let read = c .before .before .before .before .before .before .before in
+    let matched = read .before in
+    let kind = kind-at (matched .before .before .before .before .before .before .before .pre .0 .0) (matched .match .keys1) in
     let value-in = c .before .before .before .before .before .value-in in
-    let args = c .before .before .before .before .before .before .before .before .before .before .before .before .before .before .args in
-    rw (looked (pre .0 .0) (match .keys1), ← wide-operand, ← value-in .ensures)
-    (onwards (slotCode LdDwImm 0 (args .i) (value-in .result)) refl (c .before .before .before .emit-ld-dw-imm .ensures) (c .onward .ensures))
+    rw (kind, ← read .insn-at .ensures, ← c .before .before .before .before .before .before .wide-operand .ensures, ← value-in .ensures)
+    (onwards (slotCode LdDwImm 0 (read .insn-at .result) (value-in .result)) refl (c .before .before .before .emit-ld-dw-imm .ensures) (c .onward .ensures))
 
 same-length-2 : tie.Need-same-length-2
 same-length-2 c = search needs
@@ -124,14 +132,12 @@ same-length-4 c = search needs
 
 returns-2 : tie.Need-returns-2
 returns-2 c =
-    let earlier = c .before .before .before .before .before .before .before .before .before .before .before .before .before in
-    let pre = earlier .before .before .before .before .before .before .before .pre in
-    let match = earlier .match in
-    let mul-of = c .before .before .before .before .before .before .before .before .before .mul-of .ensures in
-    let width-of = c .before .before .before .before .before .before .before .before .width-of .ensures in
-    let source-of = c .before .before .before .before .before .before .before .source-of .ensures in
-    let emit-muldivmod = c .before .before .before .before .before .before .emit-muldivmod .ensures in
-    rw (looked (pre .0 .0) (match .keys2), ← mul-of, ← width-of, ← source-of) emit-muldivmod
+    let read = c .before .before .before .before .before .before .before in
+    let matched = read .before .before .before .before .before .before .before in
+    let kind = kind-at (matched .before .before .before .before .before .before .before .pre .0 .0) (matched .match .keys2) in
+    let mul-of = read .before .before .before .mul-of .ensures in
+    rw (kind, ← mul-of, ← read .before .before .width-of .ensures, ← read .before .source-of .ensures, ← read .insn-at2 .ensures)
+    (c .before .before .before .before .before .before .emit-muldivmod .ensures)
 
 same-length-5 : tie.Need-same-length-5
 same-length-5 c = search needs
@@ -144,11 +150,10 @@ same-length-7 c = search needs
 
 returns-3 : tie.Need-returns-3
 returns-3 c =
-    let earlier = c .before .before .before .before .before .before .before .before .before .before in
-    let pre = earlier .before .before .before .before .before .before .before .pre in
-    let match = earlier .match in
-    let emit-ja = c .before .before .before .before .before .before .emit-ja .ensures in
-    rw (looked (pre .0 .0) (match .keys3)) emit-ja
+    let read = c .before .before .before .before .before .before .before in
+    let matched = read .before .before .before .before in
+    let kind = kind-at (matched .before .before .before .before .before .before .before .pre .0 .0) (matched .match .keys3) in
+    rw (kind, ← read .insn-at3 .ensures) (c .before .before .before .before .before .before .emit-ja .ensures)
 
 same-length-8 : tie.Need-same-length-8
 same-length-8 c = search needs
@@ -161,14 +166,13 @@ same-length-10 c = search needs
 
 returns-4 : tie.Need-returns-4
 returns-4 c =
-    let earlier = c .before .before .before .before .before .before .before .before .before .before .before .before .before in
-    let pre = earlier .before .before .before .before .before .before .before .pre in
-    let match = earlier .match in
-    let condition-of = c .before .before .before .before .before .before .before .before .before .condition-of .ensures in
-    let width-of = c .before .before .before .before .before .before .before .before .width-of2 .ensures in
-    let source-of = c .before .before .before .before .before .before .before .source-of2 .ensures in
-    let emit-jump = c .before .before .before .before .before .before .emit-jump .ensures in
-    rw (looked (pre .0 .0) (match .keys4), ← condition-of, ← width-of, ← source-of) emit-jump
+    let read = c .before .before .before .before .before .before .before in
+    let matched = read .before .before .before .before .before .before in
+    let slot = matched .before .before .before .before .before .before .before .pre .0 .0 in
+    let kind = kind-at slot (matched .match .keys4) in
+    let opc-is = fields slot (read .insn-at4 .ensures) .opc-is in
+    rw (kind, ← read .before .before .width-of2 .ensures, ← read .before .source-of2 .ensures, ← read .insn-at4 .ensures, ← opc-is)
+    (c .before .before .before .before .before .before .emit-jump .ensures)
 
 same-length-11 : tie.Need-same-length-11
 same-length-11 c = search needs
@@ -181,13 +185,11 @@ same-length-13 c = search needs
 
 returns-5 : tie.Need-returns-5
 returns-5 c =
-    let earlier = c .before .before .before .before .before .before .before .before .before .before in
-    let pre = earlier .before .before .before .before .before .before .before .before .before .pre in
-    let match = earlier .before .before .match in
-    let call-operand = earlier .before .call-operand .ensures in
-    let value-in = earlier .value-in2 .ensures in
-    let emit-call = c .before .before .before .before .before .before .emit-call .ensures in
-    rw (looked (pre .0 .0) (match .keys5), ← call-operand, ← value-in) emit-call
+    let valued = c .before .before .before .before .before .before .before .before .before .before in
+    let matched = valued .before .before .before in
+    let kind = kind-at (matched .before .before .before .before .before .before .before .pre .0 .0) (matched .match .keys5) in
+    let insn-at = valued .before .before .insn-at5 .ensures in
+    rw (kind, ← insn-at, ← valued .before .call-operand .ensures, ← valued .value-in2 .ensures) (c .before .before .before .before .before .before .emit-call .ensures)
 
 same-length-14 : tie.Need-same-length-14
 same-length-14 c = search needs
@@ -196,23 +198,16 @@ returns-6 : tie.Need-returns-6
 returns-6 c =
     let args = c .before .before .before .before .before .before .before .before .before .before .before .before .args in
     let pre = c .before .before .before .before .before .before .before .before .before .before .before .before .pre in
-    let rest = c .before .before .before .before .before .match .rest in
-    let other : Others (args .number) =
-    record {
-      wide = rest .0 .0 .0 .0 .1;
-      divides = rest .0 .0 .0 .1;
-      ja = rest .0 .0 .1;
-      jumps = rest .0 .1;
-      calls = rest .1;
-    } in
     let behind = readAt (args .prog .now) (args .slot .number + 1) in
-    let plain = others (args .ids .now) (args .addresses .now) (args .slot .number) (args .i) behind (pre .0 .0) other in
+    let other = other (c .before .before .before .before .before .match .rest) in
+    let plain = others (args .ids .now) (args .addresses .now) (args .slot .number) _ behind (pre .0 .0 .numbered) other in
     rw (← plain .same) (onwards _ (plain .none) (c .before .before .before .emit-plain .ensures) (c .onward2 .ensures))
 
 pub emit-slot-spec : {M : Type 1} → statement M
 emit-slot-spec =
     tie.close
     (tie.spec
+    insn-at-requires
     wide-operand-requires
     value-in-requires
     emit-ld-dw-imm-requires
@@ -220,12 +215,15 @@ emit-slot-spec =
     mul-of-requires
     width-of-requires
     source-of-requires
+    insn-at-requires-2
     emit-muldivmod-requires
+    insn-at-requires-3
     emit-ja-requires
-    condition-of-requires
     width-of-requires-2
     source-of-requires-2
+    insn-at-requires-4
     emit-jump-requires
+    insn-at-requires-5
     call-operand-requires
     value-in-requires-2
     emit-call-requires

@@ -1,6 +1,6 @@
 use Rattle.jit.proofs.Bounds.{wide-some}
 use Rattle.jit_writing.proofs.Writing.{put-wide, put-one}
-use Rattle.jit_writing.specs.Numbered.{isWide}
+use Rattle.jit_walk.specs.Numbered.{isWide}
 use lib.ListN.{length-set}
 use native.Mathlib.Omega.{arith}
 use borrow.Author.Tests.{eq-eqb, ne-eqb}

@@ -1,0 +1,53 @@
+-- What the contracts of the two passes rule out.
+use mathlib.Core.Path.{_≡_, _∙_, ap, sym}
+use mathlib.Core.List.{List}
+use Prim.Native.Nat.{ℕ, _+_, _<_}
+use native.Mathlib.Omega.{arith}
+use Rattle.base.specs.declared.Slot.{Slot}
+use Rattle.jit.specs.declared.Bad.the-variants.{Nowhere, At}
+use Rattle.jit.specs.declared.Refusal.{Refusal}
+use Rattle.x86.specs.Code.{size}
+use Rattle.jit.specs.Room.{epilogueSize}
+use Rattle.jit.specs.Translation.{Block, Walk, refused, done, flat, firstBad}
+use Rattle.jit_walk.specs.Acceptable.{Acceptable}
+use Rattle.jit_measuring.specs.declared.fits.Fit.the-variants.{Sure, Not}
+use Rattle.jit_measuring.specs.declared.measure.Measured.{Measured}
+use Rattle.jit_measuring.specs.Fits.{Settles}
+use Rattle.jit_measuring.specs.Measures.{Answers}
+
+abbrev blocksIn : Walk → List Block → List Block
+blocksIn (refused r) bs = bs
+blocksIn (done cs) bs = cs
+
+abbrev refusalIn : Walk → Refusal → Refusal
+refusalIn (refused r) s = r
+refusalIn (done bs) s = s
+
+module _ (n page start : ℕ) where
+  -- the blocks that a sure check has are the walk's
+  same : {bs : List Block} (a : Acceptable n page start (done bs)) → bs ≡ a .bs
+  same {bs} a = ap (λ (w : Walk). blocksIn w bs) (a .walk)
+
+  -- The quick check: sure of a program that is refused, ..
+  pub sure-of-a-refused : (r : Refusal) → Settles n page start (refused r) Sure → ⊥
+  sure-of-a-refused r a = let e : refused r ≡ done (a .bs) = a .walk in let z : _≡_ {A = ℕ} 0 1 = cc in absurd (omega arith)
+
+  -- .. of one that has no room, ..
+  pub sure-without-room : (bs : List Block) → page < start + size (flat bs) + epilogueSize → Settles n page start (done bs) Sure → ⊥
+  sure-without-room bs h a = let room = rw (← same a) at (a .room) in absurd (omega (arith, room, h))
+
+  -- .. or of one with a bad target;
+  pub sure-of-a-bad-target : (bs : List Block) (s : Slot) → firstBad n 0 bs ≡ At s → Settles n page start (done bs) Sure → ⊥
+  sure-of-a-bad-target bs s h a =
+      let e : At s ≡ Nowhere = sym h ∙ rw (same a) (a .targets) in let z : _≡_ {A = ℕ} 0 1 = cc in absurd (omega arith)
+
+  -- it refuses what the slots do not, or with another refusal
+  pub refuses-a-good-walk : (bs : List Block) (r : Refusal) → Settles n page start (done bs) (Not r) → ⊥
+  refuses-a-good-walk bs r e = let z : _≡_ {A = ℕ} 0 1 = cc in absurd (omega arith)
+
+  pub another-refusal : (r s : Refusal) → ¬ (r ≡ s) → Settles n page start (refused r) (Not s) → ⊥
+  another-refusal r s h e = h (ap (λ (w : Walk). refusalIn w r) e)
+
+  -- Measuring: it admits one answer only.
+  pub one-answer : {w : Walk} {r s : Measured} → Answers n page start w r → Answers n page start w s → r ≡ s
+  one-answer a b = a .answer ∙ sym (b .answer)
