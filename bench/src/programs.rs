@@ -104,7 +104,7 @@ fn refused_at_last(slots: usize) -> Vec<u8> {
 /// 256 slots of one kind each; a row's cost over 256 is a slot's.
 fn kinds() -> Vec<Row> {
     let div = slot(ebpf::DIV64_REG, 3, 4, 0, 0);
-    let kinds: [(&str, [u8; 8]); 12] = [
+    let kinds: [(&str, [u8; 8]); 15] = [
         ("LE (no bytes)", slot(ebpf::LE, 2, 0, 0, 64)),
         ("EXIT", slot(ebpf::EXIT, 0, 0, 0, 0)),
         ("MOV64_REG", slot(ebpf::MOV64_REG, 6, 1, 0, 0)),
@@ -112,6 +112,9 @@ fn kinds() -> Vec<Row> {
         ("ADD64_REG", slot(ebpf::ADD64_REG, 2, 3, 0, 0)),
         ("LSH32_IMM", slot(ebpf::LSH32_IMM, 2, 0, 0, 3)),
         ("LD_W_REG", slot(ebpf::LD_W_REG, 3, 1, 26, 0)),
+        ("ST_B_REG", slot(ebpf::ST_B_REG, 10, 1, -8, 0)),
+        ("ST_H_REG", slot(ebpf::ST_H_REG, 10, 1, -8, 0)),
+        ("ST_W_REG", slot(ebpf::ST_W_REG, 10, 1, -8, 0)),
         ("ST_DW_REG", slot(ebpf::ST_DW_REG, 10, 6, -8, 0)),
         ("BE 16", slot(ebpf::BE, 2, 0, 0, 16)),
         ("JEQ_IMM", slot(ebpf::JEQ_IMM, 3, 0, -1, 0x0a01)),

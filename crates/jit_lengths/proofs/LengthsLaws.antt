@@ -2,7 +2,7 @@
 use mathlib.Core.Path.{_≡_, refl}
 use mathlib.Core.Bool.{Bool, true, false}
 use mathlib.Core.List.{List, [], _∷_, _++_}
-use Prim.Native.Nat.{ℕ, _+_, _*_, _/_, _%_, _^_, _≤_, _<_}
+use Prim.Native.Nat.{ℕ, _+_, _%_, _^_, _≤_, _<_}
 use native.Mathlib.Omega.{arith}
 use lib.ListN.{length, length-append}
 use borrow.Author.Tests.{eq-eqb, ne-eqb}
@@ -12,7 +12,7 @@ use Rattle.base.specs.declared.Width.{Width}
 use Rattle.base.specs.declared.Width.the-variants.{W32, W64}
 use Rattle.base.specs.declared.Size.{Size}
 use Rattle.x86.specs.Instr.{MOV, aluImm, load, store, storeImm}
-use Rattle.x86.specs.Encode.{wide, aluOpcode, aluImmOpcode, aluExtension, shiftExtension, rex, modrm, bare, short, memory, wideSize}
+use Rattle.x86.specs.Encode.{wide, aluOpcode, aluImmOpcode, aluExtension, shiftExtension, rexBits, rex, modrm, bare, short, memory, wideSize}
 use Rattle.x86.specs.Encode.{loadOpcode, prefix66, storeRex, storeOpcode, storeImmOpcode, immBytes, encodePlain}
 use Rattle.base.specs.Bytes.{le64}
 use Rattle.ebpf.specs.declared.insn.Insn.{Insn}
@@ -35,18 +35,10 @@ use Rattle.jit.specs.Slots.{swap, helperCall, localCall, callCode, slotCode}
 use Rattle.jit.proofs.Constants.{load-short, load-long}
 use Rattle.jit_lengths.specs.Lengths.{Rexed, kept, operands}
 
--- the REX prefix is there, or it is not
-pub rex-none : (w r b : ℕ) → 8 * w + 4 * (r / 8) + b / 8 ≡ 0 → 0 ≡ length (rex w r b)
-unfolding rex
-rex-none w r b e = rw (eq-eqb _ _ e)
-
-pub rex-one : (w r b : ℕ) → ¬ (8 * w + 4 * (r / 8) + b / 8 ≡ 0) → 1 ≡ length (rex w r b)
-unfolding rex
-rex-one w r b e = rw (ne-eqb _ _ e)
-
--- with REX.W it always is
+-- with REX.W the prefix always is there
 pub rex-wide : (r b : ℕ) → 1 ≡ length (rex 1 r b)
-rex-wide r b = rex-one 1 r b (λ e. omega (arith, e))
+unfolding rex
+rex-wide r b = rw (ne-eqb (rexBits 1 r b) 0 (λ e. omega (arith, e)))
 
 pub rexed : (w r b : ℕ) (xs : List ℕ) {k m : ℕ} → k ≡ length (rex w r b) → length xs ≡ m → k + m ≡ length (rex w r b ++ xs)
 rexed w r b xs h g = omega (arith, h, g, length-append (rex w r b) xs)

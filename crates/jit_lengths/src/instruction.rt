@@ -2,22 +2,31 @@
 ghost use mathlib.Core.Path.{_≡_};
 ghost use Prim.Native.Nat.{ℕ, _+_, _≤_, _<_};
 ghost use lib.ListN.{length};
-ghost use Rattle.x86.specs.Encode.{wideSize, rex, memory, loadOpcode, prefix66, storeRex, immBytes, encodePlain};
+ghost use Rattle.x86.specs.Encode.{wideSize, rexRule, rex, memory, loadOpcode, prefix66, storeRex, immBytes, encodePlain};
 ghost use Rattle.x86.specs.Instr.{load, store, storeImm};
 ghost use Rattle.jit.specs.Slots.{loadImm};
 ghost use Rattle.jit_lengths.specs.Lengths.{Rexed};
 use base::Size;
 use base::Width;
+use x86::FORCED;
 
-// The REX prefix, which is left out where none of its bits is set.
+// The one rule for the REX prefix: it is left out where none of its bits is set, unless it is forced.
+fn rex_rule_length(force: bool, w: u8, r: u8, b: u8) -> usize
+    requires { ⌜ (w < 2) × ((r < 16) × (b < 16)) ⌝ }
+    ensures { λ x. ⌜ (x ≡ length (rexRule «force» w r b)) × (x ≤ 1) ⌝ }
+{
+    if !force && 8 * w + 4 * (r / 8) + b / 8 == 0 {
+        return 0;
+    }
+    1
+}
+
+// .. where nothing forces it.
 pub fn rex_length(w: u8, r: u8, b: u8) -> usize
     requires { ⌜ (w < 2) × ((r < 16) × (b < 16)) ⌝ }
     ensures { λ x. ⌜ (x ≡ length (rex w r b)) × (x ≤ 1) ⌝ }
 {
-    if 8 * w + 4 * (r / 8) + b / 8 == 0 {
-        return 0;
-    }
-    1
+    rex_rule_length(!FORCED, w, r, b)
 }
 
 // A REX prefix and `rest` bytes.
@@ -84,13 +93,13 @@ fn prefix_length(size: Size) -> usize
     }
 }
 
-// A byte store always has a REX prefix.
+// A store of one byte forces its REX prefix.
 fn store_rex_length(size: Size, src: u8, base: u8) -> usize
     requires { ⌜ (src < 16) × (base < 16) ⌝ }
     ensures { λ x. ⌜ (x ≡ length (storeRex size src base)) × (x ≤ 1) ⌝ }
 {
     match size {
-        Size::S8 => 1,
+        Size::S8 => rex_rule_length(FORCED, 0, src, base),
         Size::S16 => rex_length(0, src, base),
         Size::S32 => rex_length(0, src, base),
         Size::S64 => rex_length(1, src, base),

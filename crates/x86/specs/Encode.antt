@@ -1,7 +1,7 @@
 -- The bytes of each instruction: Intel 64 manual, volume 2. The prefix 66, then REX, then the opcode, ModRM, displacement, immediate
 -- (section 2.1); REX 0100WRXB (section 2.2.1), written where one of its bits is set, and always by a store of one byte; ModRM's
 -- mod, reg and r/m (section 2.1.5, table 2-2).
-use mathlib.Core.Bool.{Bool, not, _&&_}
+use mathlib.Core.Bool.{Bool, true, not, _&&_}
 use mathlib.Core.List.{List, [], _∷_, _++_}
 use Prim.Native.Nat.{ℕ, _+_, _*_, _/_, _%_, _^_}
 use lib.Dec.{ltb, eqb}
@@ -92,8 +92,16 @@ wideSize S64 = 1
 abbrev pub rexBits : ℕ → ℕ → ℕ → ℕ
 rexBits w r b = 8 * w + 4 * (r / 8) + b / 8
 
+-- The one rule for the prefix: it is left out where none of its bits is set, unless it is forced.
+abbrev pub rexRule : Bool → ℕ → ℕ → ℕ → List ℕ
+rexRule force w r b = pick (not force && eqb (rexBits w r b) 0) [] ((0x40 + rexBits w r b) ∷ [])
+
+abbrev pub forced : Bool
+forced = true
+
+-- .. where nothing forces it
 unfoldable pub rex : ℕ → ℕ → ℕ → List ℕ
-rex w r b = pick (eqb (rexBits w r b) 0) [] ((0x40 + rexBits w r b) ∷ [])
+rex w r b = rexRule (not forced) w r b
 
 unfoldable pub modrm : ℕ → ℕ → ℕ → ℕ
 modrm m r b = 64 * m + 8 * (r % 8) + b % 8
@@ -125,9 +133,9 @@ prefix66 S16 = 0x66 ∷ []
 prefix66 S32 = []
 prefix66 S64 = []
 
--- A store of one byte always has a REX: without one the numbers 4 to 7 mean AH, CH, DH and BH (section 3.7.2.1 of volume 1).
+-- A store of one byte forces its REX: without one the numbers 4 to 7 mean AH, CH, DH and BH (section 3.7.2.1 of volume 1).
 abbrev pub storeRex : Size → ℕ → ℕ → List ℕ
-storeRex S8 src base = (0x40 + rexBits 0 src base) ∷ []
+storeRex S8 src base = rexRule forced 0 src base
 storeRex S16 src base = rex 0 src base
 storeRex S32 src base = rex 0 src base
 storeRex S64 src base = rex 1 src base

@@ -1,15 +1,15 @@
 -- An instruction as a word: the numbers that the emitters put together are the encoding's bytes.
 use mathlib.Core.Path.{_≡_, _∙_, ap}
-use mathlib.Core.Bool.{true, false}
+use mathlib.Core.Bool.{Bool, true, false, not, _&&_}
 use mathlib.Core.List.{List, [], _∷_, _++_, append-assoc}
-use Prim.Native.Nat.{ℕ, suc, _+_, _*_, _/_, _%_, _<_, _≤_, _^_}
+use Prim.Native.Nat.{ℕ, suc, _+_, _*_, _%_, _<_, _≤_, _^_}
 use native.Mathlib.Omega.{arith}
 use native.Mathlib.Numerals.{add-one}
+use lib.Dec.{eqb}
 use lib.ListN.{length}
 use Rattle.base.specs.Bytes.{bytesOf}
 use Rattle.base.proofs.BytesLaws.{bytes-cons, length-bytesOf}
-use Rattle.base.proofs.Tests.{eqb-true, eqb-false}
-use Rattle.x86.specs.Encode.{rex, rexBits, modrm, memory, bare, short}
+use Rattle.x86.specs.Encode.{rexRule, rex, rexBits, modrm, memory, bare, short}
 use Rattle.x86.proofs.Lengths.{behind}
 use Rattle.x86_emit.specs.Addresses.{Addresses}
 
@@ -20,16 +20,14 @@ byte b h = ap (λ (x : ℕ). x ∷ []) (omega arith)
 pub pair : (a b : ℕ) → a < 256 → b < 256 → bytesOf 2 (a + 256 * b) ≡ a ∷ b ∷ []
 pair a b h g = bytes-cons 1 a b h ∙ ap (λ (l : List ℕ). a ∷ l) (byte b g)
 
--- the REX prefix, left out and written
-pub rex-absent : (w r b : ℕ) (xs : List ℕ) → 8 * w + 4 * (r / 8) + b / 8 ≡ 0 → xs ≡ rex w r b ++ xs
-unfolding rex
-rex-absent w r b xs e = rw (eqb-true (rexBits w r b) 0 e)
+-- the rule for the REX prefix: left out and written
+pub rex-absent : (force : Bool) (bits w r b : ℕ) (xs : List ℕ) → rexBits w r b ≡ bits → (not force && eqb bits 0) ≡ true
+    → xs ≡ rexRule force w r b ++ xs
+rex-absent force bits w r b xs e f = rw (e, f)
 
-pub rex-present : (w r b size rest : ℕ) → ¬ (8 * w + 4 * (r / 8) + b / 8 ≡ 0) → w < 2 → r < 16 → b < 16
-    → bytesOf (size + 1) (64 + (8 * w + 4 * (r / 8) + b / 8) + 256 * rest) ≡ rex w r b ++ bytesOf size rest
-unfolding rex
-rex-present w r b size rest e hw hr hb =
-    rw (eqb-false (rexBits w r b) 0 e, add-one size) (bytes-cons size (64 + rexBits w r b) rest (omega arith))
+pub rex-present : (force : Bool) (bits w r b size rest : ℕ) → rexBits w r b ≡ bits → (not force && eqb bits 0) ≡ false → bits < 16
+    → bytesOf (size + 1) (64 + bits + 256 * rest) ≡ rexRule force w r b ++ bytesOf size rest
+rex-present force bits w r b size rest e f h = rw (e, f, add-one size) (bytes-cons size (64 + bits) rest (omega arith))
 
 -- behind a REX: other names for its W and for what follows
 pub rexed : {w w′ : ℕ} {xs ys : List ℕ} (r b : ℕ) → w ≡ w′ → xs ≡ ys → rex w r b ++ xs ≡ rex w′ r b ++ ys
@@ -72,10 +70,6 @@ pub opcode2 : {size word reg base disp : ℕ} (o p : ℕ) → o < 256 → p < 25
 opcode2 {size} {word} o p h g a =
     let s : size + 2 ≡ suc (suc size) = omega arith in
     rw s (bytes-cons (suc size) o (p + 256 * word) h ∙ ap (λ (l : List ℕ). o ∷ l) (bytes-cons size p word g) ∙ ap (λ (l : List ℕ). o ∷ p ∷ l) (a .bytes))
-
--- the prefix of a byte store
-pub store-rex : (s b : ℕ) (ys : List ℕ) → (64 + (4 * (s / 8) + b / 8)) ∷ ys ≡ (0x40 + rexBits 0 s b) ∷ ys
-store-rex s b ys = ap (λ (x : ℕ). x ∷ ys) (omega arith)
 
 -- a store of an immediate: its last bytes come by themselves
 pub rexed-most : (w r b n x : ℕ) → length (rex w r b ++ bytesOf n x) ≤ 1 + n

@@ -1,5 +1,5 @@
 -- What `Wrote` rules out, whatever the page: an answer that is not the place behind the bytes, a page that is changed further on, and other
--- bytes than those that are meant, as two emitters would write them that get a displacement wrong.
+-- bytes than those that are meant, as emitters would write them that get a displacement or a store's REX wrong.
 use mathlib.Core.Path.{_≡_, _∙_, refl, ap, sym}
 use mathlib.Core.Bool.{Bool, true, false, not, _&&_}
 use mathlib.Core.List.{List, [], _∷_, _++_}
@@ -76,6 +76,17 @@ displaced =
 pub displacements : Refuted displaced
 unfolding rex modrm memory bare short
 displacements = refuted displaced refl
+
+-- A byte store from RDI without its 0x40, which stores BH; a store of four bytes with a 0x40 that nothing forces.
+abbrev pub prefixed : List Case
+prefixed =
+    (0x88 ∷ 0x38 ∷ []) for encodePlain (store S8 RDI RAX 0)
+    ∷ (0x40 ∷ 0x89 ∷ 0x38 ∷ []) for encodePlain (store S32 RDI RAX 0)
+    ∷ []
+
+pub prefixes : Refuted prefixed
+unfolding rex modrm memory bare
+prefixes = refuted prefixed refl
 
 -- The two tests by which the code picks a displacement's form: `bare` of R13, `short` of 128.
 pub tested : (true ≡ bare R13 0 → ⊥) × (true ≡ short 128 → ⊥)

@@ -5,9 +5,10 @@ ghost use mathlib.Core.List.{_++_};
 ghost use Prim.Native.Nat.{_+_, _≤_, _<_, _^_};
 ghost use lib.ListN.{length};
 ghost use Rattle.base.specs.Bytes.{bytesOf, le32, le64};
-ghost use Rattle.x86.specs.Encode.{rex, modrm};
+ghost use Rattle.x86.specs.Encode.{rexRule, rex, modrm};
 ghost use Rattle.x86_emit.specs.Lent.{Wrote, Stores};
 use base::Position;
+use x86::FORCED;
 use x86::REX;
 use x86::REX_W;
 
@@ -46,7 +47,33 @@ pub fn emit_bytes(code: &mut [u8], at: Position, data: u64, size: usize) -> Posi
     }
 }
 
-// `emit_basic_rex` and what follows it: a REX prefix where one of its bits is set, then the lowest `size` bytes of `rest`.
+// The one rule for the REX prefix, and what follows it: a prefix where one of its bits is set or where it is forced, then the lowest
+// `size` bytes of `rest`.
+pub fn emit_rex_rule(
+    code: &mut [u8],
+    at: Position,
+    force: bool,
+    w: u8,
+    r: u8,
+    b: u8,
+    rest: u64,
+    size: usize,
+) -> Position
+    requires { ⌜ (at .offset + 8 ≤ length (now code)) × ((size ≤ 7) × ((w < 2) × ((r < 16) × ((b < 16) × (rest < 2 ^ 56))))) ⌝ }
+    ensures { λ x. ⌜ Wrote code at x (rexRule «force» w r b ++ bytesOf size rest) ⌝ }
+{
+    let bits = 4 * (r / 8) + b / 8;
+    // At 64 bits there always is one: it is not tested for.
+    if w == 1 {
+        return emit_bytes(code, at, REX_W + bits as u64 + 256 * rest, size + 1);
+    }
+    if !force && bits == 0 {
+        return emit_bytes(code, at, rest, size);
+    }
+    emit_bytes(code, at, REX + bits as u64 + 256 * rest, size + 1)
+}
+
+// `emit_basic_rex` and what follows it: nothing forces the prefix.
 pub fn emit_rexed(
     code: &mut [u8],
     at: Position,
@@ -59,15 +86,7 @@ pub fn emit_rexed(
     requires { ⌜ (at .offset + 8 ≤ length (now code)) × ((size ≤ 7) × ((w < 2) × ((r < 16) × ((b < 16) × (rest < 2 ^ 56))))) ⌝ }
     ensures { λ x. ⌜ Wrote code at x (rex w r b ++ bytesOf size rest) ⌝ }
 {
-    let bits = 4 * (r / 8) + b / 8;
-    // At 64 bits there always is one: it is not tested for.
-    if w == 1 {
-        return emit_bytes(code, at, REX_W + bits as u64 + 256 * rest, size + 1);
-    }
-    if bits == 0 {
-        return emit_bytes(code, at, rest, size);
-    }
-    emit_bytes(code, at, REX + bits as u64 + 256 * rest, size + 1)
+    emit_rex_rule(code, at, !FORCED, w, r, b, rest, size)
 }
 
 // The ModRM byte.

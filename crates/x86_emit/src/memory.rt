@@ -6,9 +6,11 @@ ghost use Rattle.x86.specs.Instr.{load, store, storeImm};
 ghost use Rattle.x86_emit.specs.Addresses.{Addresses};
 ghost use Rattle.x86_emit.specs.Lent.{Wrote, Fits};
 use crate::bytes;
+use crate::bytes::emit_rex_rule;
 use crate::bytes::emit_rexed;
 use base::Position;
 use base::Size;
+use x86::FORCED;
 use x86::GROUP11;
 use x86::GROUP11_BYTE;
 use x86::GROUP11_MOV;
@@ -22,11 +24,7 @@ use x86::MOVZX_BYTE;
 use x86::MOVZX_WORD;
 use x86::OPERAND_SIZE;
 use x86::RBP;
-use x86::REX;
 use x86::TWO_BYTES;
-
-// The prefix that a store of one byte always has.
-const BYTE_REX: u8 = REX as u8;
 
 // Opcodes, as they stand in a word.
 const STORE: u64 = MOV as u64;
@@ -125,10 +123,17 @@ pub fn emit_store(
 {
     let m = modrm_and_displacement(src, base, disp);
     match size {
-        Size::S8 => {
-            let rex = (BYTE_REX + (4 * (src / 8) + base / 8)) as u64;
-            bytes::emit_bytes(code, at, rex + 256 * (MOV_BYTE + 256 * m.word), m.size + 2)
-        }
+        // Without a REX the numbers 4 to 7 mean AH, CH, DH and BH.
+        Size::S8 => emit_rex_rule(
+            code,
+            at,
+            FORCED,
+            0,
+            src,
+            base,
+            MOV_BYTE + 256 * m.word,
+            m.size + 1,
+        ),
         Size::S16 => {
             let next = bytes::emit_bytes(code, at, OPERAND_SIZE, 1);
             emit_rexed(code, next, 0, src, base, STORE + 256 * m.word, m.size + 1)

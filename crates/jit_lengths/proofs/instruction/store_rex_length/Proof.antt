@@ -5,6 +5,9 @@ use Rattle.jit_lengths.proofs.instruction.store_rex_length.Tie as tie
 enum-told : tie.Need-enum-told
 enum-told c = search needs
 
+rex-rule-length-requires : tie.Need-rex-rule-length-requires
+rex-rule-length-requires c κs = search needs
+
 enum-told-2 : tie.Need-enum-told-2
 enum-told-2 c = search needs
 
@@ -40,6 +43,7 @@ store-rex-length-spec =
     tie.close
     (tie.spec
     enum-told
+    rex-rule-length-requires
     enum-told-2
     rex-length-requires
     enum-told-3

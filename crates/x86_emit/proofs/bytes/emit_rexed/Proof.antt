@@ -1,116 +1,17 @@
-use Rattle.x86_emit.proofs.InstructionWords.{rex-absent, rex-present}
-use Rattle.x86_emit.proofs.WroteLaws.{same}
-use Rattle.base.specs.Bytes.{bytesOf}
-use mathlib.Core.Path.{_∙_, ap}
-use Prim.Native.Nat.{_+_}
-use native.Mathlib.Omega.{arith}
+use Rattle.x86.specs.Encode.{rex}
 use borrow.Author.Needs.{needs}
 use Rattle.x86_emit.proofs.bytes.emit_rexed.Statement.{statement}
 use Rattle.x86_emit.proofs.bytes.emit_rexed.Tie as tie
 
-mul-bits : tie.Need-mul-bits
-mul-bits c = search needs
-
-add-bits : tie.Need-add-bits
-add-bits c = search needs
-
-cast-emit-bytes : tie.Need-cast-emit-bytes
-cast-emit-bytes c = search needs
-
-add-emit-bytes : tie.Need-add-emit-bytes
-add-emit-bytes c = search needs
-
-mul-emit-bytes : tie.Need-mul-emit-bytes
-mul-emit-bytes c = search needs
-
-add-emit-bytes-2 : tie.Need-add-emit-bytes-2
-add-emit-bytes-2 c = search needs
-
-add-emit-bytes-3 : tie.Need-add-emit-bytes-3
-add-emit-bytes-3 c = search needs
-
-emit-bytes-requires : tie.Need-emit-bytes-requires
-emit-bytes-requires c κs = search needs
+emit-rex-rule-requires : tie.Need-emit-rex-rule-requires
+emit-rex-rule-requires c κs = search needs
 
 same-length : tie.Need-same-length
 same-length c = search needs
 
 returns : tie.Need-returns
-returns c =
-    let start = c .before .before .before .before .before .before in
-    let if1 = c .before .before .before .before .if1 in
-    same (c .before .before .emit-bytes .ensures)
-    (ap (bytesOf (start .args .size + 1)) (omega (arith, if1 .taken))
-    ∙ rex-present (start .args .w) (start .args .r) (start .args .b) (start .args .size) (start .args .rest) (λ e. omega (arith, if1 .taken, e))
-    (search needs) (search needs) (search needs))
-
-emit-bytes-requires-2 : tie.Need-emit-bytes-requires-2
-emit-bytes-requires-2 c κs = search needs
-
-same-length-2 : tie.Need-same-length-2
-same-length-2 c = search needs
-
-returns-2 : tie.Need-returns-2
-returns-2 c =
-    let start = c .before .before .before .before .before .before .before in
-    let if1 = c .before .before .before .before .before .if1 in
-    let if2 = c .before .before .before .before .if2 in
-    same (c .before .before .emit-bytes2 .ensures)
-    (rex-absent (start .args .w) (start .args .r) (start .args .b) _ (omega (arith, start .pre, if1 .left, if2 .taken)))
-
-cast-emit-bytes-2 : tie.Need-cast-emit-bytes-2
-cast-emit-bytes-2 c = search needs
-
-add-emit-bytes-4 : tie.Need-add-emit-bytes-4
-add-emit-bytes-4 c = search needs
-
-mul-emit-bytes-2 : tie.Need-mul-emit-bytes-2
-mul-emit-bytes-2 c = search needs
-
-add-emit-bytes-5 : tie.Need-add-emit-bytes-5
-add-emit-bytes-5 c = search needs
-
-add-emit-bytes-6 : tie.Need-add-emit-bytes-6
-add-emit-bytes-6 c = search needs
-
-emit-bytes-requires-3 : tie.Need-emit-bytes-requires-3
-emit-bytes-requires-3 c κs = search needs
-
-same-length-3 : tie.Need-same-length-3
-same-length-3 c = search needs
-
-returns-3 : tie.Need-returns-3
-returns-3 c =
-    let start = c .before .before .before .before .before .before .before in
-    let if1 = c .before .before .before .before .before .if1 in
-    let if2 = c .before .before .before .before .if2 in
-    same (c .before .before .emit-bytes3 .ensures)
-    (ap (bytesOf (start .args .size + 1)) (omega (arith, start .pre, if1 .left))
-    ∙ rex-present (start .args .w) (start .args .r) (start .args .b) (start .args .size) (start .args .rest) (λ e. if2 .left (omega (arith, e)))
-    (search needs) (search needs) (search needs))
+unfolding rex
+returns c = c .before .before .emit-rex-rule .ensures
 
 pub emit-rexed-spec : {M : Type 1} → statement M
-emit-rexed-spec =
-    tie.close
-    (tie.spec
-    mul-bits
-    add-bits
-    cast-emit-bytes
-    add-emit-bytes
-    mul-emit-bytes
-    add-emit-bytes-2
-    add-emit-bytes-3
-    emit-bytes-requires
-    same-length
-    returns
-    emit-bytes-requires-2
-    same-length-2
-    returns-2
-    cast-emit-bytes-2
-    add-emit-bytes-4
-    mul-emit-bytes-2
-    add-emit-bytes-5
-    add-emit-bytes-6
-    emit-bytes-requires-3
-    same-length-3
-    returns-3)
+emit-rexed-spec = tie.close (tie.spec emit-rex-rule-requires same-length returns)

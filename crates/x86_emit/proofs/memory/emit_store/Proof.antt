@@ -1,10 +1,9 @@
-use mathlib.Core.Path.{_∙_}
-use Rattle.x86_emit.proofs.InstructionWords.{store-rex}
 use lib.Dec.{lit<}
 use mathlib.Core.Path.{refl, ap}
-use mathlib.Core.List.{List, _∷_}
+use mathlib.Core.List.{List, _∷_, _++_}
 use Prim.Native.Nat.{ℕ}
-use Rattle.x86_emit.proofs.InstructionWords.{rexed, opcode1, opcode2}
+use Rattle.x86.specs.Encode.{rexRule, forced}
+use Rattle.x86_emit.proofs.InstructionWords.{rexed, opcode1}
 use Rattle.x86_emit.proofs.WroteLaws.{same, then}
 use borrow.Author.Needs.{needs}
 use Rattle.x86_emit.proofs.memory.emit_store.Statement.{statement}
@@ -16,41 +15,23 @@ modrm-and-displacement-requires c κs = search needs
 enum-told : tie.Need-enum-told
 enum-told c = search needs
 
-mul-rex : tie.Need-mul-rex
-mul-rex c = search needs
+mul-emit-rex-rule : tie.Need-mul-emit-rex-rule
+mul-emit-rex-rule c = search needs
 
-add-rex : tie.Need-add-rex
-add-rex c = search needs
+add-emit-rex-rule : tie.Need-add-emit-rex-rule
+add-emit-rex-rule c = search needs
 
-add-rex-2 : tie.Need-add-rex-2
-add-rex-2 c = search needs
+add-emit-rex-rule-2 : tie.Need-add-emit-rex-rule-2
+add-emit-rex-rule-2 c = search needs
 
-cast-rex : tie.Need-cast-rex
-cast-rex c = search needs
-
-mul-emit-bytes : tie.Need-mul-emit-bytes
-mul-emit-bytes c = search needs
-
-add-emit-bytes : tie.Need-add-emit-bytes
-add-emit-bytes c = search needs
-
-mul-emit-bytes-2 : tie.Need-mul-emit-bytes-2
-mul-emit-bytes-2 c = search needs
-
-add-emit-bytes-2 : tie.Need-add-emit-bytes-2
-add-emit-bytes-2 c = search needs
-
-add-emit-bytes-3 : tie.Need-add-emit-bytes-3
-add-emit-bytes-3 c = search needs
-
-emit-bytes-requires : tie.Need-emit-bytes-requires
-emit-bytes-requires c κs = search needs
+emit-rex-rule-requires : tie.Need-emit-rex-rule-requires
+emit-rex-rule-requires c κs = search needs
 
 enum-told-2 : tie.Need-enum-told-2
 enum-told-2 c = search needs
 
-emit-bytes-requires-2 : tie.Need-emit-bytes-requires-2
-emit-bytes-requires-2 c κs = search needs
+emit-bytes-requires : tie.Need-emit-bytes-requires
+emit-bytes-requires c κs = search needs
 
 mul-emit-rexed : tie.Need-mul-emit-rexed
 mul-emit-rexed c = search needs
@@ -99,10 +80,11 @@ same-length c = search needs
 
 returns : tie.Need-returns
 returns c =
+    let args = c .before .before .before .before .before .before .before .before .before .before .args in
     let operand = c .before .before .before .before .before .before .before .before .modrm-and-displacement in
     let told = c .before .before .before .before .before .before .enum-told in
-    rw (told .given .1)
-    (same (c .before .before .emit-bytes .ensures) (opcode2 _ 0x88 (search needs) (lit< tt) (operand .ensures) ∙ store-rex _ _ _))
+    rw (told .given .1) (same (c .before .before .emit-rex-rule .ensures)
+    (ap (λ (l : List ℕ). rexRule forced 0 (args .src) (args .base) ++ l) (opcode1 0x88 (lit< tt) (operand .ensures))))
 
 same-length-2 : tie.Need-same-length-2
 same-length-2 c = search needs
@@ -111,8 +93,8 @@ returns-2 : tie.Need-returns-2
 returns-2 c =
     let operand = c .before .before .before .before .before .before .before .before .before .before .before .before .modrm-and-displacement in
     let told2 = c .before .before .before .before .before .before .before .before .before .before .enum-told2 in
-    let emit-bytes2 = c .before .before .before .before .before .before .before .before .emit-bytes2 in
-    rw (told2 .given .1) (same (then (emit-bytes2 .ensures) (c .before .before .emit-rexed .ensures))
+    let emit-bytes = c .before .before .before .before .before .before .before .before .emit-bytes in
+    rw (told2 .given .1) (same (then (emit-bytes .ensures) (c .before .before .emit-rexed .ensures))
     (ap (λ (l : List ℕ). 0x66 ∷ l) (rexed _ _ refl (opcode1 0x89 (lit< tt) (operand .ensures)))))
 
 same-length-3 : tie.Need-same-length-3
@@ -139,18 +121,12 @@ emit-store-spec =
     (tie.spec
     modrm-and-displacement-requires
     enum-told
-    mul-rex
-    add-rex
-    add-rex-2
-    cast-rex
-    mul-emit-bytes
-    add-emit-bytes
-    mul-emit-bytes-2
-    add-emit-bytes-2
-    add-emit-bytes-3
-    emit-bytes-requires
+    mul-emit-rex-rule
+    add-emit-rex-rule
+    add-emit-rex-rule-2
+    emit-rex-rule-requires
     enum-told-2
-    emit-bytes-requires-2
+    emit-bytes-requires
     mul-emit-rexed
     add-emit-rexed
     add-emit-rexed-2
