@@ -93,7 +93,7 @@ fn prefix_length(size: Size) -> usize
     }
 }
 
-// A store of one byte forces its REX prefix.
+// A store of a register's byte forces its REX prefix.
 fn store_rex_length(size: Size, src: u8, base: u8) -> usize
     requires { ⌜ (src < 16) × (base < 16) ⌝ }
     ensures { λ x. ⌜ (x ≡ length (storeRex size src base)) × (x ≤ 1) ⌝ }

@@ -1,5 +1,5 @@
 -- The bytes of each instruction: Intel 64 manual, volume 2. The prefix 66, then REX, then the opcode, ModRM, displacement, immediate
--- (section 2.1); REX 0100WRXB (section 2.2.1), written where one of its bits is set, and always by a store of one byte; ModRM's
+-- (section 2.1); REX 0100WRXB (section 2.2.1), written where one of its bits is set, and always by a store of a register's byte; ModRM's
 -- mod, reg and r/m (section 2.1.5, table 2-2).
 use mathlib.Core.Bool.{Bool, true, not, _&&_}
 use mathlib.Core.List.{List, [], _∷_, _++_}
@@ -133,7 +133,7 @@ prefix66 S16 = 0x66 ∷ []
 prefix66 S32 = []
 prefix66 S64 = []
 
--- A store of one byte forces its REX: without one the numbers 4 to 7 mean AH, CH, DH and BH (section 3.7.2.1 of volume 1).
+-- A store of a register's byte forces the REX: without one the numbers 4 to 7 mean AH, CH, DH and BH (section 3.7.2.1 of volume 1).
 abbrev pub storeRex : Size → ℕ → ℕ → List ℕ
 storeRex S8 src base = rexRule forced 0 src base
 storeRex S16 src base = rex 0 src base
