@@ -4,10 +4,12 @@ examples/filters. `exec-test/disassembly` starts it.
 For each page both listings have to have the same instructions: the same starts, lengths, names and operands. objdump's have to follow each
 other from the page's first byte to its last, and what it printed of each, written out again by model-test/encode.py (which is
 crates/x86/specs/Encode.antt in Python), has to give the page's bytes back. Every location has to be the start of one of its instructions, and
-every listed jump has to be one that goes to its target's location. Prints the count of each form; the last line is 'N passed, M failed', a
-page being one, and the status is 1 where one failed.
+every listed jump has to be one that goes to its target's location; where the answer shows a kind and a maker of it, it has to be of that kind
+and stand in that slot's code. Prints the count of each form; the last line is 'N passed, M failed', a page being one, and the status is 1
+where one failed.
 """
 
+import bisect
 import collections
 import os
 import subprocess
@@ -23,6 +25,7 @@ from machine import fail
 
 SHOWN = 20
 FIELD, EPILOGUE, EXIT = 4, 16, 1000001  # bytes of a jump's field and of the epilogue; the target that is the exit
+CONDITIONAL, PLAIN, LOCAL_CALL = 1, 2, 3  # the kinds of jumps
 
 
 def all_answers():
@@ -59,6 +62,29 @@ def unlike(theirs, ours):
             return
 
 
+def kind_of(name):
+    return {"jmp": PLAIN, "call": LOCAL_CALL}.get(name, CONDITIONAL)
+
+
+def makers_of(answer):
+    """For each field the slot whose code it stands in: the last that begins ahead of it. The prologue's has the program's number of slots."""
+    slots = len(answer.locations) - 1
+    # The prologue is at 0, so that a slot whose location this is has no code: a wide load's second.
+    coded = [slot for slot in range(slots) if answer.locations[slot] > 0]
+    places, makers = [answer.locations[slot] for slot in coded], [slots, *coded]
+    return [makers[bisect.bisect_left(places, field)] for field in answer.fields]
+
+
+def origins(answer, read_before):
+    """What is wrong with an answer's kinds and makers."""
+    for field, kind, maker, made in zip(answer.fields, answer.kinds, answer.makers, makers_of(answer)):
+        read = read_before.get(field + FIELD, ("none",))
+        if read[0] != "jump" or kind_of(read[1]) != kind:
+            yield "the jump with the field at %d is %s, and not of the kind %d" % (field, read, kind)
+        if maker != made:
+            yield "the jump with the field at %d is in the code of slot %d, and not of %d" % (field, made, maker)
+
+
 def landings(answer, listing):
     """What is wrong with an answer's tables, by its listing."""
     starts, read_before = {start for start, _, _ in listing}, {start + length: read for start, length, read in listing}
@@ -70,6 +96,7 @@ def landings(answer, listing):
         wanted = len(answer.code) - EPILOGUE if target == EXIT else answer.locations[target]
         if read[0] != "jump" or (field + FIELD + read[2]) % 2**32 != wanted:
             yield "the jump with the field at %d does not go to %d" % (field, wanted)
+    yield from origins(answer, read_before)
 
 
 def main():
@@ -89,7 +116,8 @@ def main():
             print("FAILED answer %d: %s" % (answer.number, wrong[0]))
     for form, count in sorted(forms.items()):
         print("%-10s %7d" % (form, count))
-    print("%d locations, %d listed jumps" % (sum(len(a.locations) for a in answers), sum(len(a.fields) for a in answers)))
+    locations, jumps, kinds = (sum(len(getattr(answer, table)) for answer in answers) for table in ("locations", "fields", "kinds"))
+    print("%d locations, %d listed jumps, %d of them with kind and maker" % (locations, jumps, kinds))
     print("%d instructions, %d bytes" % (sum(forms.values()), sum(map(len, codes))))
     print("%d passed, %d failed" % (len(codes) - failed, failed))
     sys.exit(1 if failed else 0)

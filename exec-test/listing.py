@@ -10,6 +10,7 @@ import tempfile
 from machine import OBJDUMP, ROOT, fail
 
 M32 = 2**32 - 1
+HEAD = 1 + 3 * 4  # bytes of an accepted answer ahead of its code: 0, L, J, n + 1
 LINE = re.compile(r"^ *([0-9a-f]+):\t((?:[0-9a-f]{2} )+) *\t?(.*)$")
 MEMORY = re.compile(r"^(BYTE|WORD|DWORD|QWORD) PTR \[(\w+)(?:([+-])0x([0-9a-f]+))?\]$")
 SIZES = {"BYTE": 8, "WORD": 16, "DWORD": 32, "QWORD": 64}
@@ -186,13 +187,15 @@ def by_reader(answers):
 
 
 class Accepted:
-    """An accepted answer of a stream (docs/CASES.md): its number there, its code and its three tables."""
+    """An accepted answer of a stream (docs/CASES.md): its number there, its code and its tables. The answer to a case with three tables shows
+    neither kinds nor makers, and has none here."""
 
-    def __init__(self, number, answers, at):
-        length, jumps, entries = struct.unpack_from("<III", answers, at)
-        tables = struct.unpack_from("<%dI" % (entries + 2 * jumps), answers, at + 12 + length)
-        self.number, self.code = number, answers[at + 12:at + 12 + length]
-        self.locations, self.fields, self.targets = tables[:entries], tables[entries:entries + jumps], tables[entries + jumps:]
+    def __init__(self, number, rest):
+        length, jumps, entries = struct.unpack_from("<III", rest, 1)
+        self.number, self.code = number, rest[HEAD:HEAD + length]
+        numbers = [each for each, in struct.iter_unpack("<I", rest[HEAD + length:])]
+        self.locations, behind = numbers[:entries], numbers[entries:]
+        self.fields, self.targets, self.kinds, self.makers = (behind[at * jumps:(at + 1) * jumps] for at in range(4))
 
 
 def accepted(answers):
@@ -200,6 +203,6 @@ def accepted(answers):
     while at < len(answers):
         length, = struct.unpack_from("<I", answers, at)
         if answers[at + 4] == 0:
-            yield Accepted(number, answers, at + 5)
+            yield Accepted(number, answers[at + 4:at + 4 + length])
         at += 4 + length
         number += 1

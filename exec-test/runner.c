@@ -201,7 +201,7 @@ static uint8_t *executable(const uint8_t *code, size_t length) {
 
 static void try_filter(uint32_t flags, const struct bytes *packets, uint32_t packet_count) {
     static uint8_t code[NDAKOLEEM_CODE_MAX];
-    static uint32_t locations[NDAKOLEEM_TABLE_ENOUGH], fields[NDAKOLEEM_TABLE_ENOUGH], targets[NDAKOLEEM_TABLE_ENOUGH];
+    static struct ndakoleem_memory memory;
     uint32_t ids[NDAKOLEEM_HELPERS_MAX];
     uint64_t addresses[NDAKOLEEM_HELPERS_MAX];
     uint32_t page_length = read_number(), helpers = read_number();
@@ -209,9 +209,11 @@ static void try_filter(uint32_t flags, const struct bytes *packets, uint32_t pac
     for (uint32_t i = 0; i < helpers; i++) addresses[i] = helper_address(ids[i] = read_number());
     struct bytes program = read_bytes();
     uint32_t changed = read_number();
-    struct ndakoleem_translation t = ndakoleem_translate(
-        program.at, program.length, flags & 1, flags >> 1 & 1, ids, helpers, addresses, helpers, code, page_length,
-        locations, NDAKOLEEM_TABLE_ENOUGH, fields, NDAKOLEEM_TABLE_ENOUGH, targets, NDAKOLEEM_TABLE_ENOUGH);
+    struct ndakoleem_buffers lent = ndakoleem_lend(&memory);
+    lent.code = code; /* a page may be longer than is enough */
+    lent.code_length = page_length;
+    struct ndakoleem_translation t = ndakoleem_translate_into(
+        program.at, program.length, flags & 1, flags >> 1 & 1, ids, helpers, addresses, helpers, &lent);
     free(program.at);
     uint32_t answer[4] = {t.number, t.slot, t.length, t.jumps};
     write_all(answer, sizeof answer);

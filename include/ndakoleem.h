@@ -61,7 +61,14 @@ enum ndakoleem_number {
     NDAKOLEEM_BAD_TARGET = 14        /* a jump or a local call goes to no slot of the program                    [the first such jump's slot] */
 };
 
-/* Accepted: number and slot are 0, length is how many bytes of code there are, jumps how many entries each of the two jump tables has.
+/* What a jump is, in the table of kinds. */
+enum ndakoleem_jump_kind {
+    NDAKOLEEM_JUMP_CONDITIONAL = 1,  /* taken on a condition; so is the jump of MOD by register */
+    NDAKOLEEM_JUMP_PLAIN = 2,        /* always taken; so are the prologue's jump and that of DIV by register */
+    NDAKOLEEM_JUMP_LOCAL_CALL = 3    /* a call within the program */
+};
+
+/* Accepted: number and slot are 0, length is how many bytes of code there are, jumps how many entries each of the four jump tables has.
  * Refused: number and slot say why and where; length and jumps are 0. */
 struct ndakoleem_translation {
     uint8_t number;
@@ -79,7 +86,8 @@ struct ndakoleem_translation {
 #define NDAKOLEEM_HELPER __attribute__((force_align_arg_pointer))
 
 /* Translates a program. Every argument gets an answer; nothing need be checked beforehand but that each pointer is good for its length (in
- * elements) and that no buffer that is written overlaps another. A pointer may not be null, even where its length is 0.
+ * elements) and that no buffer that is written overlaps another. A pointer may not be null, even where its length is 0. The number in the name
+ * rises with every change of the parameters, so that a caller that was built for others does not link.
  *
  *   program              the filter's bytecode
  *   use_mbuff            the filter gets a metadata buffer (mbuff) in r1, and not the packet itself
@@ -89,9 +97,11 @@ struct ndakoleem_translation {
  *   locations            accepted: entries 0 to n become the position of each slot's code (0 for a wide load's second slot, and for entry n)
  *   fields, targets      accepted: their first `jumps` entries become the position of each jump's four-byte field, and the slot that it goes to
  *                        (NDAKOLEEM_EXIT_TARGET for the exit)
+ *   kinds, makers        accepted: their first `jumps` entries become what each jump is (enum ndakoleem_jump_kind), and the slot whose code
+ *                        holds it (n for the prologue's jump, which comes first)
  *
  * Everything behind these is left as it was; a refusal changes nothing at all. */
-struct ndakoleem_translation ndakoleem_translate(
+struct ndakoleem_translation ndakoleem_translate_2(
     const uint8_t *program, size_t program_length,
     bool use_mbuff, bool update_data_ptr,
     const uint32_t *ids, size_t ids_length,
@@ -99,7 +109,9 @@ struct ndakoleem_translation ndakoleem_translate(
     uint8_t *code, size_t code_length,
     uint32_t *locations, size_t locations_length,
     uint32_t *fields, size_t fields_length,
-    uint32_t *targets, size_t targets_length);
+    uint32_t *targets, size_t targets_length,
+    uint32_t *kinds, size_t kinds_length,
+    uint32_t *makers, size_t makers_length);
 
 /* A refusal in words, for an operator: "slot 7: a jump to slot 90, the program ends at 40 (refusal 14)". The program, and the answer's number and
  * slot, go in; the sentence goes to the start of `out`, cut where it does not fit and not ended by a zero, and its length is given back. */
@@ -108,7 +120,7 @@ size_t ndakoleem_sentence(
     uint8_t number, size_t slot,
     char *out, size_t out_length);
 
-/* What is lent to a translation and written by it; ndakoleem_translate explains each. Lengths are in elements. */
+/* What is lent to a translation and written by it; ndakoleem_translate_2 explains each. Lengths are in elements. */
 struct ndakoleem_buffers {
     uint8_t *code;
     size_t code_length;
@@ -118,6 +130,10 @@ struct ndakoleem_buffers {
     size_t fields_length;
     uint32_t *targets;
     size_t targets_length;
+    uint32_t *kinds;
+    size_t kinds_length;
+    uint32_t *makers;
+    size_t makers_length;
 };
 
 /* Memory in which every program finds room. It is more than 100 KiB: too much for a small stack. */
@@ -126,6 +142,8 @@ struct ndakoleem_memory {
     uint32_t locations[NDAKOLEEM_TABLE_ENOUGH];
     uint32_t fields[NDAKOLEEM_TABLE_ENOUGH];
     uint32_t targets[NDAKOLEEM_TABLE_ENOUGH];
+    uint32_t kinds[NDAKOLEEM_TABLE_ENOUGH];
+    uint32_t makers[NDAKOLEEM_TABLE_ENOUGH];
 };
 
 /* All of that memory. A caller who lends it so has no line to change when a table is added. */
@@ -139,10 +157,15 @@ static inline struct ndakoleem_buffers ndakoleem_lend(struct ndakoleem_memory *m
     lent.fields_length = NDAKOLEEM_TABLE_ENOUGH;
     lent.targets = memory->targets;
     lent.targets_length = NDAKOLEEM_TABLE_ENOUGH;
+    lent.kinds = memory->kinds;
+    lent.kinds_length = NDAKOLEEM_TABLE_ENOUGH;
+    lent.makers = memory->makers;
+    lent.makers_length = NDAKOLEEM_TABLE_ENOUGH;
     return lent;
 }
 
-/* ndakoleem_translate, with the buffers in one struct. The helper lists may be null where their lengths are 0. */
+/* ndakoleem_translate_2, with the buffers in one struct. The helper lists and the tables may be null where their lengths are 0: a caller who
+ * does not know of a table, and leaves it so, gets NDAKOLEEM_TABLE_TOO_SHORT. */
 static inline struct ndakoleem_translation ndakoleem_translate_into(
     const uint8_t *program, size_t program_length,
     bool use_mbuff, bool update_data_ptr,
@@ -151,12 +174,17 @@ static inline struct ndakoleem_translation ndakoleem_translate_into(
     const struct ndakoleem_buffers *lent) {
     static const uint32_t no_id = 0;
     static const uint64_t no_address = 0;
-    return ndakoleem_translate(
+    uint32_t no_entry = 0;
+    return ndakoleem_translate_2(
         program, program_length, use_mbuff, update_data_ptr,
         ids == NULL ? &no_id : ids, ids_length,
         addresses == NULL ? &no_address : addresses, addresses_length,
-        lent->code, lent->code_length, lent->locations, lent->locations_length,
-        lent->fields, lent->fields_length, lent->targets, lent->targets_length);
+        lent->code, lent->code_length,
+        lent->locations == NULL ? &no_entry : lent->locations, lent->locations_length,
+        lent->fields == NULL ? &no_entry : lent->fields, lent->fields_length,
+        lent->targets == NULL ? &no_entry : lent->targets, lent->targets_length,
+        lent->kinds == NULL ? &no_entry : lent->kinds, lent->kinds_length,
+        lent->makers == NULL ? &no_entry : lent->makers, lent->makers_length);
 }
 
 #ifdef __cplusplus

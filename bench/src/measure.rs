@@ -3,7 +3,7 @@
 //!
 //! One translation of the Rust is `JitMemory::new` of the no-std form, with
 //! what it does inside: `Vec`s on the heap, hashing, assertions. Ours is one
-//! call of `ndakoleem_translate`. Neither allocates the page or clears it, and
+//! call of `ndakoleem_translate_2`. Neither allocates the page or clears it, and
 //! the Rust's map of helpers is made beforehand. DPDK's JIT is counted beside
 //! them on the programs that it takes; it maps a page of its own.
 
@@ -24,6 +24,7 @@ pub enum Measured {
 
 const PAGE: usize = ndakoleem::CODE_MAX;
 const ENTRIES: usize = 2 * ndakoleem::SLOTS_MAX;
+const TABLES: usize = 5;
 /// A row's labels, from its first, as `table.py` reads them. The last two are
 /// of the programs that DPDK's JIT takes.
 const RUST: u64 = 0;
@@ -42,7 +43,7 @@ struct Page([u8; PAGE]);
 struct Lent {
     rust_page: Box<Page>,
     our_page: Box<Page>,
-    tables: [Vec<u32>; 3],
+    tables: [Vec<u32>; TABLES],
 }
 
 #[inline(never)]
@@ -64,12 +65,25 @@ fn rust_length(
     done.ok().map(|memory| debug_number(&format!("{memory:?}"), "offset: ") as usize)
 }
 
+/// How much of each table a case lends; a case with three has n + 1 entries for
+/// the kinds and for the makers. Found ahead of a translation, and not counted.
+fn entries_of(case: &Case) -> [usize; TABLES] {
+    let [locations, fields, targets] = case.table_lens;
+    let [kinds, makers] = case.further_lens.unwrap_or([case.slots() as u32 + 1; 2]);
+    [locations, fields, targets, kinds, makers].map(|length| (length as usize).min(ENTRIES))
+}
+
 #[inline(never)]
-fn run_ours(case: &Case, page: &mut [u8], tables: &mut [Vec<u32>; 3]) -> raw::Translation {
-    let [locations, fields, targets] = tables;
-    let [l, f, t] = case.table_lens.map(|length| (length as usize).min(ENTRIES));
+fn run_ours(
+    case: &Case,
+    page: &mut [u8],
+    tables: &mut [Vec<u32>; TABLES],
+    entries: &[usize; TABLES],
+) -> raw::Translation {
+    let [locations, fields, targets, kinds, makers] = tables;
+    let [l, f, t, k, m] = *entries;
     unsafe {
-        raw::ndakoleem_translate(
+        raw::ndakoleem_translate_2(
             case.program.as_ptr(),
             case.program.len(),
             case.use_mbuff,
@@ -86,6 +100,10 @@ fn run_ours(case: &Case, page: &mut [u8], tables: &mut [Vec<u32>; 3]) -> raw::Tr
             f,
             targets.as_mut_ptr(),
             t,
+            kinds.as_mut_ptr(),
+            k,
+            makers.as_mut_ptr(),
+            m,
         )
     }
 }
@@ -123,7 +141,8 @@ fn prepared(case: &Case, refused: bool, lent: &mut Lent) -> Result<Option<usize>
     if length > PAGE {
         return Ok(None);
     }
-    let ours = run_ours(case, &mut lent.our_page.0[..length], &mut lent.tables);
+    let page = &mut lent.our_page.0[..length];
+    let ours = run_ours(case, page, &mut lent.tables, &entries_of(case));
     if (ours.number == 0) == refused {
         return Ok(None);
     }
@@ -142,15 +161,17 @@ fn counted(label: u64, case: &Case, length: usize, lent: &mut Lent) {
     let helpers = helpers_of(case);
     let page = &mut lent.rust_page.0[..length];
     marked(label + RUST, || _ = black_box(run_rust(case, &helpers, page)));
-    let page = &mut lent.our_page.0[..length];
-    marked(label + OURS, || _ = black_box(run_ours(case, page, &mut lent.tables)));
+    let (page, entries) = (&mut lent.our_page.0[..length], entries_of(case));
+    marked(label + OURS, || _ = black_box(run_ours(case, page, &mut lent.tables, &entries)));
 }
 
 fn counted_beside_dpdk(label: u64, case: &Case, length: usize, lent: &mut Lent) {
     let Some(mut program) = dpdk::Program::taken(case) else { return };
     marked(label + DPDK, || _ = black_box(program.translate()));
-    let page = &mut lent.our_page.0[..length];
-    marked(label + OURS_BESIDE_DPDK, || _ = black_box(run_ours(case, page, &mut lent.tables)));
+    let (page, entries) = (&mut lent.our_page.0[..length], entries_of(case));
+    marked(label + OURS_BESIDE_DPDK, || {
+        _ = black_box(run_ours(case, page, &mut lent.tables, &entries))
+    });
 }
 
 /// Nanoseconds of one translation, the shortest of five rounds.
@@ -180,9 +201,11 @@ fn times(cases: &[(&Case, usize)], lent: &mut Lent) -> (f64, f64) {
             black_box(run_rust(black_box(case), helpers, &mut lent.rust_page.0[..*length]));
         }
     });
+    let entries: Vec<_> = cases.iter().map(|(case, _)| entries_of(case)).collect();
     let ours = timed(|| {
-        for (case, length) in cases {
-            black_box(run_ours(black_box(case), &mut lent.our_page.0[..*length], &mut lent.tables));
+        for ((case, length), entries) in cases.iter().zip(&entries) {
+            let page = &mut lent.our_page.0[..*length];
+            black_box(run_ours(black_box(case), page, &mut lent.tables, entries));
         }
     });
     (rust, ours)
@@ -208,8 +231,8 @@ fn labelled(rows: &[Row]) -> impl Iterator<Item = (u64, &Row)> {
 /// the Rust's counts.
 pub fn all(measured: Measured, rows: &[Row]) -> Result<(), String> {
     let page = || Box::new(Page([0; PAGE]));
-    let mut lent =
-        Lent { rust_page: page(), our_page: page(), tables: [0, 1, 2].map(|_| vec![0; ENTRIES]) };
+    let tables = [ENTRIES; TABLES].map(|length| vec![0; length]);
+    let mut lent = Lent { rust_page: page(), our_page: page(), tables };
     marked(0, || ());
     for (label, row) in labelled(rows) {
         let cases = ready(row, &mut lent)?;

@@ -61,6 +61,7 @@ fn case_of(program: Vec<u8>) -> Case {
         update_data_ptr: false,
         code_len: PAGE,
         table_lens: [entries; 3],
+        further_lens: Some([entries; 2]),
         helper_addresses: vec![0x7f00_1122_3340; helper_ids.len()],
         helper_ids,
         program,

@@ -8,7 +8,7 @@ use std::fs::File;
 use std::io::{self, BufReader, BufWriter, Read, Write};
 
 use crate::judge::Judge;
-use crate::stream::{self, Answer, Case, Records};
+use crate::stream::{self, Answer, Case, Records, Translation};
 use crate::{corpus as list, generate};
 
 type Status = Result<u8, String>;
@@ -68,12 +68,26 @@ fn hex_slots(program: &[u8]) -> String {
     slots.collect::<Vec<_>>().join(" | ")
 }
 
+/// A listed jump; with its kind and maker where the case asks for them.
+fn jump_in_words(page: &Translation, at: usize) -> String {
+    let jump = format!("{} to {}", page.fields[at], page.targets[at]);
+    match &page.further {
+        Some(further) => {
+            format!("{jump} (kind {}, maker {})", further.kinds[at], further.makers[at])
+        }
+        None => jump,
+    }
+}
+
 pub fn show() -> Status {
     each_case(|out, at, case, answer| {
         writeln!(
             out,
             "case {at}: use_mbuff {}, update_data_ptr {}, page {}, tables {:?}",
-            case.use_mbuff, case.update_data_ptr, case.code_len, case.table_lens
+            case.use_mbuff,
+            case.update_data_ptr,
+            case.code_len,
+            case.given_lens()
         )?;
         if !case.helper_ids.is_empty() || !case.helper_addresses.is_empty() {
             writeln!(out, "  helpers {:x?} at {:x?}", case.helper_ids, case.helper_addresses)?;
@@ -82,8 +96,7 @@ pub fn show() -> Status {
         writeln!(out, "  {answer}")?;
         if let Answer::Accepted(page) = answer {
             writeln!(out, "  locations {:?}", page.locations)?;
-            let jumps = page.fields.iter().zip(&page.targets);
-            let jumps = jumps.map(|(field, target)| format!("{field} to {target}"));
+            let jumps = (0..page.fields.len()).map(|at| jump_in_words(page, at));
             writeln!(out, "  jump fields {}", jumps.collect::<Vec<_>>().join(", "))?;
             writeln!(out, "  code {}", hex(&page.code))?;
         }
@@ -146,17 +159,36 @@ fn difference(a: &Option<Answer>, b: &Option<Answer>) -> String {
     let words = |answer: &Option<Answer>| {
         answer.as_ref().map_or("no answer".to_string(), Answer::to_string)
     };
-    let mut said = format!("{}, and {}", words(a), words(b));
-    if let (Some(Answer::Accepted(a)), Some(Answer::Accepted(b))) = (a, b) {
-        if let Some(at) = (0..a.code.len()).find(|at| a.code.get(*at) != b.code.get(*at)) {
-            said += &format!("; the code from byte {at}");
+    let said = format!("{}, and {}", words(a), words(b));
+    match (a, b) {
+        (Some(Answer::Accepted(a)), Some(Answer::Accepted(b))) => said + &page_difference(a, b),
+        _ => said,
+    }
+}
+
+/// The parts in which two accepted answers differ.
+fn page_difference(a: &Translation, b: &Translation) -> String {
+    let mut said = String::new();
+    if let Some(at) = (0..a.code.len()).find(|at| a.code.get(*at) != b.code.get(*at)) {
+        said += &format!("; the code from byte {at}");
+    }
+    if a.locations != b.locations {
+        said += "; the locations";
+    }
+    if (&a.fields, &a.targets) != (&b.fields, &b.targets) {
+        said += "; the jumps";
+    }
+    match (&a.further, &b.further) {
+        (Some(a), Some(b)) => {
+            if a.kinds != b.kinds {
+                said += "; the kinds";
+            }
+            if a.makers != b.makers {
+                said += "; the makers";
+            }
         }
-        if a.locations != b.locations {
-            said += "; the locations";
-        }
-        if (&a.fields, &a.targets) != (&b.fields, &b.targets) {
-            said += "; the jumps";
-        }
+        (None, None) => {}
+        _ => said += "; one alone has kinds and makers",
     }
     said
 }
@@ -179,4 +211,48 @@ pub fn diff(one: &str, other: &str) -> Status {
     }
     say(&format!("{all} cases, {differing} differ\n{}", first.unwrap_or_default()))?;
     Ok((differing > 0) as u8)
+}
+
+#[cfg(test)]
+mod tests {
+    use super::*;
+    use crate::slots::{five_tables, plain_case};
+    use crate::stream::Further;
+
+    fn exit_page(with_five: bool) -> Translation {
+        let case = plain_case(&[0x95, 0, 0, 0, 0, 0, 0, 0]);
+        let case = if with_five { five_tables(case) } else { case };
+        match Judge::new().answer(&case) {
+            Ok(Answer::Accepted(page)) => page,
+            other => panic!("{other:?}"),
+        }
+    }
+
+    fn said_of(change: impl FnOnce(&mut Translation)) -> String {
+        let one = exit_page(true);
+        let mut other = one.clone();
+        change(&mut other);
+        page_difference(&one, &other)
+    }
+
+    fn further(page: &mut Translation) -> &mut Further {
+        page.further.as_mut().expect("five tables are asked for")
+    }
+
+    #[test]
+    fn a_difference_is_told_by_its_part() {
+        assert_eq!(said_of(|_| ()), "");
+        assert_eq!(said_of(|page| page.code[7] += 1), "; the code from byte 7");
+        assert_eq!(said_of(|page| page.locations[1] = 1), "; the locations");
+        assert_eq!(said_of(|page| page.targets[0] = 1), "; the jumps");
+        assert_eq!(said_of(|page| further(page).kinds[0] = 1), "; the kinds");
+        assert_eq!(said_of(|page| further(page).makers[0] = 0), "; the makers");
+        assert_eq!(said_of(|page| page.further = None), "; one alone has kinds and makers");
+    }
+
+    #[test]
+    fn a_jump_is_shown_with_what_was_asked_for() {
+        assert_eq!(jump_in_words(&exit_page(false), 0), "30 to 1000001");
+        assert_eq!(jump_in_words(&exit_page(true), 0), "30 to 1000001 (kind 2, maker 1)");
+    }
 }

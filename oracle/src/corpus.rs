@@ -1,5 +1,6 @@
 //! The fixed list of cases: every opcode, register, edge and refusal in turn,
-//! then a random part from a fixed seed, then the limits once more.
+//! then a random part from a fixed seed, then the limits once more, then cases
+//! with five tables.
 //!
 //! Each function gives one part; `cases` puts them one behind the other. The
 //! list is the same on every machine.
@@ -7,7 +8,6 @@
 use crate::ebpf;
 use crate::generate::Generator;
 use crate::judge::Judge;
-use crate::limits;
 use crate::sizes::{
     ANCHOR, CODE_MAX, CODE_MIN, EPILOGUE, HELPERS_MAX, PROGRAM_MAX, PROLOGUE, SLOT_LONGEST,
     TABLE_AMPLE, TABLE_ENOUGH,
@@ -16,11 +16,16 @@ use crate::slots::{
     plain_case, slot, wide, Opcodes, BAD_SWAPS, CONSTANTS, IDS, IMMS, LAST_REGISTER, OFFS,
 };
 use crate::stream::{Answer, Case, HELPER_LIMIT};
+use crate::{five, limits};
 
 const RANDOM_SEED: u64 = 1;
 const RANDOM_COUNT: u64 = 2_000;
 
 pub const EXIT: [u8; 8] = [ebpf::EXIT, 0, 0, 0, 0, 0, 0, 0];
+
+/// `use_mbuff` and `update_data_ptr`.
+pub const FLAG_PAIRS: [(bool, bool); 4] =
+    [(false, false), (false, true), (true, false), (true, true)];
 
 pub fn cases() -> Result<Vec<Case>, String> {
     let mut judge = Judge::new();
@@ -41,9 +46,10 @@ pub fn cases() -> Result<Vec<Case>, String> {
     list.extend(page_ends(&mut judge, &opcodes)?);
     let mut generator = Generator::new()?;
     for at in 0..RANDOM_COUNT {
-        list.push(generator.case(RANDOM_SEED, at)?);
+        list.push(generator.of_three_tables(RANDOM_SEED, at)?);
     }
     list.extend(limits::cases());
+    list.extend(five::cases(&mut judge, &opcodes, &mut generator)?);
     Ok(list)
 }
 
@@ -112,7 +118,7 @@ fn register_pairs(opcodes: &Opcodes) -> Vec<Case> {
     list
 }
 
-fn with_helper(case: Case, id: u32) -> Case {
+pub fn with_helper(case: Case, id: u32) -> Case {
     Case { helper_ids: vec![id], helper_addresses: vec![0x1122_3344_5566_7788], ..case }
 }
 
@@ -174,9 +180,7 @@ fn flags() -> Vec<Case> {
         [&[], &[EXIT], &[jump, anchor], &[slot(ebpf::LD_ABS_B, 0, 0, 0, 12)]];
     let mut list = Vec::new();
     for program in programs {
-        for (use_mbuff, update_data_ptr) in
-            [(false, false), (false, true), (true, false), (true, true)]
-        {
+        for (use_mbuff, update_data_ptr) in FLAG_PAIRS {
             list.push(Case { use_mbuff, update_data_ptr, ..case_of(program) });
         }
     }
@@ -325,10 +329,10 @@ fn jumps() -> Vec<Case> {
     list
 }
 
-/// Causes of different refusals side by side: every two kinds of bad slot in
-/// either order, and every set of causes for 1 to 5 ahead of a bad slot.
-fn refusal_order() -> Vec<Case> {
-    let bad = [
+/// A slot for each of refusals 7 to 12 and 14, and a wide load, which alone at
+/// the end is one for 6.
+pub fn bad_slots() -> [[u8; 8]; 8] {
+    [
         slot(ebpf::MOV64_REG, 11, 0, 0, 0),
         slot(0xff, 0, 0, 0, 0),
         slot(ebpf::TAIL_CALL, 0, 0, 0, 0),
@@ -337,7 +341,13 @@ fn refusal_order() -> Vec<Case> {
         slot(ebpf::CALL, 0, 2, 0, 0),
         slot(ebpf::JA, 0, 0, 9, 0),
         slot(ebpf::LD_DW_IMM, 0, 0, 0, 0),
-    ];
+    ]
+}
+
+/// Causes of different refusals side by side: every two kinds of bad slot in
+/// either order, and every set of causes for 1 to 5 ahead of a bad slot.
+fn refusal_order() -> Vec<Case> {
+    let bad = bad_slots();
     let mut list = Vec::new();
     for one in bad {
         for other in bad {
@@ -401,19 +411,29 @@ fn page_ends(judge: &mut Judge, opcodes: &Opcodes) -> Result<Vec<Case>, String> 
     ];
     let mut list = Vec::new();
     for last in last_slots(opcodes) {
-        let Answer::Accepted(alone) = judge.answer(&with_helper(case_of(&last), 0))? else {
-            return Err(format!("the slot {last:02x?} is not accepted alone"));
-        };
-        let len = alone.code.len() - PROLOGUE - EPILOGUE;
-        // How many bytes too many there are: with 0 the epilogue fits.
+        let len = code_len_alone(judge, &last)?;
         let excesses = match at_every_byte.contains(&last[0][0]) {
             true => (0..=EPILOGUE + len).collect(),
             false => vec![0, 1, EPILOGUE, EPILOGUE + 1, EPILOGUE + len],
         };
         for excess in excesses {
-            let room = CODE_MIN as usize + excess - PROLOGUE - EPILOGUE - len;
-            list.push(with_helper(case_of(&[filler(room), last.clone()].concat()), 0));
+            list.push(page_end(&last, len, excess));
         }
     }
     Ok(list)
+}
+
+/// The length of the code of these slots.
+pub fn code_len_alone(judge: &mut Judge, slots: &[[u8; 8]]) -> Result<usize, String> {
+    match judge.answer(&with_helper(case_of(slots), 0))? {
+        Answer::Accepted(alone) => Ok(alone.code.len() - PROLOGUE - EPILOGUE),
+        Answer::Refused { .. } => Err(format!("the slots {slots:02x?} are not accepted alone")),
+    }
+}
+
+/// The smallest page with a program that ends in these slots, whose code has
+/// `len` bytes, and has so many bytes too many: with 0 the epilogue fits.
+pub fn page_end(last: &[[u8; 8]], len: usize, excess: usize) -> Case {
+    let room = CODE_MIN as usize + excess - PROLOGUE - EPILOGUE - len;
+    with_helper(case_of(&[&filler(room), last].concat()), 0)
 }

@@ -17,6 +17,10 @@ use crate::stream::{Answer, Case, Translation, HELPER_LIMIT};
 /// Jumps of a program that is to be trimmed stay below this slot.
 const TRIMMED_REACH: usize = 40;
 
+/// Sets a seed apart from itself: the two further tables are drawn from numbers
+/// of their own, so that the rest of a case is the same with and without them.
+const FURTHER: u64 = 0x6b69_6e64_6d61_6b65;
+
 pub struct Generator {
     judge: Judge,
     opcodes: Opcodes,
@@ -29,7 +33,22 @@ impl Generator {
         Ok(Generator { judge, opcodes })
     }
 
+    /// Every second case has five tables.
     pub fn case(&mut self, seed: u64, at: u64) -> Result<Case, String> {
+        if at.is_multiple_of(2) {
+            self.of_three_tables(seed, at)
+        } else {
+            self.of_five_tables(seed, at)
+        }
+    }
+
+    pub fn of_five_tables(&mut self, seed: u64, at: u64) -> Result<Case, String> {
+        let case = self.of_three_tables(seed, at)?;
+        let random = &mut Random::new(seed ^ FURTHER, at);
+        Ok(Case { further_lens: Some(further_lens(random, case.slots() as u32)), ..case })
+    }
+
+    pub fn of_three_tables(&mut self, seed: u64, at: u64) -> Result<Case, String> {
         let random = &mut Random::new(seed, at);
         Ok(match random.below(1_000) {
             0..=509 => self.small(random, 0),
@@ -89,7 +108,10 @@ impl Generator {
                     case.code_len = random.pick(&[CODE_MAX + 1, CODE_MAX + 2, 1 << 20, u32::MAX])
                 }
                 8 => overlong(random, &mut case),
-                9..=11 => short_table(random, &mut case),
+                9..=11 => {
+                    let n = case.slots() as u32;
+                    shorten(random, &mut case.table_lens, n)
+                }
                 _ => bad_helpers(random, &mut case),
             }
             if !random.one_in(4) {
@@ -233,6 +255,7 @@ fn framed(random: &mut Random, program: Vec<u8>, ids: Vec<u32>, addresses: Vec<u
         update_data_ptr: flags & 2 != 0,
         code_len,
         table_lens: [0; 3].map(|_| entries + random.pick(&[0, 0, 0, 1, 2, 100])),
+        further_lens: None,
         helper_ids: ids,
         helper_addresses: addresses,
         program,
@@ -246,11 +269,24 @@ fn overlong(random: &mut Random, case: &mut Case) {
     case.table_lens = [random.pick(&[TABLE_ENOUGH - 1, TABLE_ENOUGH, TABLE_AMPLE]); 3];
 }
 
-/// Refusal 4: one table, or two, or three, has fewer than n+1 entries.
-fn short_table(random: &mut Random, case: &mut Case) {
-    let n = case.slots() as u32;
-    let which = 1 + random.below(7);
-    for (at, len) in case.table_lens.iter_mut().enumerate() {
+/// The lengths of the tables of kinds and makers: enough, now and then far more
+/// than that, now and then too few.
+fn further_lens(random: &mut Random, n: u32) -> [u32; 2] {
+    let mut lens = [0; 2].map(|_| match random.below(16) {
+        0 => random.pick(&[TABLE_AMPLE, TABLE_AMPLE + 1, 1 << 20, u32::MAX]),
+        _ => n + 1 + random.pick(&[0, 0, 0, 1, 2, 100]),
+    });
+    if random.one_in(20) {
+        shorten(random, &mut lens, n);
+    }
+    lens
+}
+
+/// Refusal 4: one table or several have fewer than n+1 entries.
+fn shorten(random: &mut Random, lens: &mut [u32], n: u32) {
+    let sets = 1 << lens.len();
+    let which = 1 + random.below(sets - 1);
+    for (at, len) in lens.iter_mut().enumerate() {
         if which >> at & 1 != 0 {
             *len = random.pick(&[n, n, n.saturating_sub(1), 0]);
         }

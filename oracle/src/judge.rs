@@ -2,15 +2,16 @@
 //! docs/REFUSALS.md numbers them.
 //!
 //! What is translated, and to which bytes, the Rust alone decides. The oracle
-//! adds a few lines: refusals 2 to 5, which the Rust does not have, and the
-//! names of the Rust's own endings, which are error texts and panic texts there
-//! and numbers here. An ending that has no number is a failure of the oracle,
-//! said in a sentence; it is never guessed at.
+//! adds a few lines: refusals 2 to 5, which the Rust does not have, the names of
+//! the Rust's own endings, which are error texts and panic texts there and
+//! numbers here, and the kinds and makers of `jumps.rs`. An ending that has no
+//! number is a failure of the oracle, said in a sentence; it is never guessed
+//! at.
 
 use crate::observe::{self, debug_number, Panic, Seen, NO_LOCATION};
 use crate::sizes::{CODE_MAX, CODE_MIN, EPILOGUE, EXIT_ANCHOR, HELPERS_MAX, PROGRAM_MAX};
 use crate::stream::{Answer, Case, Translation};
-use crate::{ebpf, jit, HashMap};
+use crate::{ebpf, jit, jumps, HashMap};
 
 /// Bytes behind the code buffer that are watched as well.
 const GUARD: usize = 64;
@@ -94,16 +95,22 @@ impl Judge {
         if !whole {
             return Err("the notes of an accepted run do not agree with its code".to_string());
         }
+        let code = &self.page.0[..len];
+        // Found for every page, shown where the case asks: the check that is in
+        // them is not to depend on the question.
+        let further = jumps::further(code, seen)?;
         Ok(Answer::Accepted(Translation {
-            code: self.page.0[..len].to_vec(),
+            code: code.to_vec(),
             locations: seen.locations.iter().map(|location| *location as u32).collect(),
             fields: seen.jumps.iter().map(|jump| jump.field as u32).collect(),
             targets: seen.jumps.iter().map(|jump| jump.target as u32).collect(),
+            further: case.further_lens.map(|_| further),
         }))
     }
 }
 
-/// Refusals 2 to 5, in the order of docs/REFUSALS.md.
+/// Refusals 2 to 5, in the order of docs/REFUSALS.md. A table whose length the
+/// case does not give is never short.
 fn added_refusal(case: &Case) -> Option<u8> {
     let entries = case.slots() as u32 + 1;
     let short = |len: &u32| *len < entries;
@@ -111,7 +118,7 @@ fn added_refusal(case: &Case) -> Option<u8> {
         Some(2)
     } else if case.program.len() > PROGRAM_MAX {
         Some(3)
-    } else if case.table_lens.iter().any(short) {
+    } else if case.given_lens().iter().any(short) {
         Some(4)
     } else if !helpers_are_good(&case.helper_ids, &case.helper_addresses) {
         Some(5)

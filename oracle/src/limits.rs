@@ -1,4 +1,4 @@
-//! The end of the fixed list: every limit from both sides, and of two causes
+//! A part of the fixed list: every limit from both sides, and of two causes
 //! the one that has to be told. It stands behind the random part, so that the
 //! cases ahead of it keep their numbers.
 
@@ -19,17 +19,17 @@ pub fn cases() -> Vec<Case> {
     list
 }
 
-fn local_call(imm: i32) -> [u8; 8] {
+pub fn local_call(imm: i32) -> [u8; 8] {
     slot(ebpf::CALL, 0, 1, 0, imm)
 }
 
 /// So many bytes of slots that have no code.
-fn codeless(len: usize) -> Vec<u8> {
+pub fn codeless(len: usize) -> Vec<u8> {
     slot(ebpf::LE, 0, 0, 0, 16).into_iter().cycle().take(len).collect()
 }
 
 /// A program in a page and tables that have room for it.
-fn roomy(program: &[u8]) -> Case {
+pub fn roomy(program: &[u8]) -> Case {
     Case { code_len: CODE_MAX, ..plain_case(program) }
 }
 

@@ -5,8 +5,10 @@
 
 mod commands;
 mod corpus;
+mod five;
 mod generate;
 mod judge;
+mod jumps;
 mod limits;
 mod observe;
 mod program;

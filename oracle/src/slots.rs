@@ -86,9 +86,25 @@ pub fn plain_case(program: &[u8]) -> Case {
         update_data_ptr: false,
         code_len: CODE_MIN,
         table_lens: [entries; 3],
+        further_lens: None,
         helper_ids: Vec::new(),
         helper_addresses: Vec::new(),
         program: program.to_vec(),
+    }
+}
+
+/// The same case with five tables, the two further ones of n+1 entries.
+pub fn five_tables(case: Case) -> Case {
+    let entries = case.slots() as u32 + 1;
+    Case { further_lens: Some([entries; 2]), ..case }
+}
+
+/// The same case with five tables of these lengths.
+pub fn with_tables(case: &Case, [locations, fields, targets, kinds, makers]: [u32; 5]) -> Case {
+    Case {
+        table_lens: [locations, fields, targets],
+        further_lens: Some([kinds, makers]),
+        ..case.clone()
     }
 }
 

@@ -12,10 +12,17 @@ use std::io::{self, Read, Write};
 pub const PROGRAM_LIMIT: usize = 32_768;
 pub const HELPER_LIMIT: usize = 512;
 const CASE_LIMIT: usize =
-    1 + 4 + 12 + (4 + 4 * HELPER_LIMIT) + (4 + 8 * HELPER_LIMIT) + (4 + PROGRAM_LIMIT);
+    1 + 4 + 4 * 5 + (4 + 4 * HELPER_LIMIT) + (4 + 8 * HELPER_LIMIT) + (4 + PROGRAM_LIMIT);
 /// No answer comes near this; a longer one means that the stream is no stream
 /// of answers.
 const ANSWER_LIMIT: usize = 1 << 20;
+
+/// The flags of a case.
+const USE_MBUFF: u8 = 1 << 0;
+const UPDATE_DATA_PTR: u8 = 1 << 1;
+/// The lengths of the tables of kinds and makers are given, and the answer is
+/// to show what these hold.
+const FIVE_TABLES: u8 = 1 << 7;
 
 /// What the translator is given. Tables are given by their lengths alone.
 #[derive(Clone, Debug, PartialEq)]
@@ -25,6 +32,9 @@ pub struct Case {
     pub code_len: u32,
     /// Entries of the locations, jump field and jump target tables.
     pub table_lens: [u32; 3],
+    /// Entries of the jump kind and jump maker tables, in a case with five
+    /// tables. In any other they have n+1, and the answer is silent about them.
+    pub further_lens: Option<[u32; 2]>,
     pub helper_ids: Vec<u32>,
     pub helper_addresses: Vec<u64>,
     pub program: Vec<u8>,
@@ -44,9 +54,24 @@ pub struct Translation {
     pub locations: Vec<u32>,
     pub fields: Vec<u32>,
     pub targets: Vec<u32>,
+    /// In the answer to a case with five tables.
+    pub further: Option<Further>,
+}
+
+/// What kind of jump each listed one is, and the slot that made it.
+#[derive(Clone, Debug, PartialEq)]
+pub struct Further {
+    pub kinds: Vec<u32>,
+    pub makers: Vec<u32>,
 }
 
 impl Case {
+    /// The lengths of the tables, as far as the case gives them.
+    pub fn given_lens(&self) -> Vec<u32> {
+        let further = self.further_lens.iter().flatten();
+        self.table_lens.iter().chain(further).copied().collect()
+    }
+
     /// n: the program's length divided by 8, rounded down.
     pub fn slots(&self) -> usize {
         self.program.len() / 8
@@ -76,10 +101,17 @@ fn put_record(to: &mut impl Write, rest: &[u8]) -> io::Result<()> {
     to.write_all(rest)
 }
 
+fn flags_of(case: &Case) -> u8 {
+    let flag = |bit, set| if set { bit } else { 0 };
+    flag(USE_MBUFF, case.use_mbuff)
+        | flag(UPDATE_DATA_PTR, case.update_data_ptr)
+        | flag(FIVE_TABLES, case.further_lens.is_some())
+}
+
 pub fn write_case(to: &mut impl Write, case: &Case) -> io::Result<()> {
-    let mut rest = vec![case.use_mbuff as u8 | (case.update_data_ptr as u8) << 1];
+    let mut rest = vec![flags_of(case)];
     put_u32s(&mut rest, &[case.code_len]);
-    put_u32s(&mut rest, &case.table_lens);
+    put_u32s(&mut rest, &case.given_lens());
     put_u32s(&mut rest, &[case.helper_ids.len() as u32]);
     put_u32s(&mut rest, &case.helper_ids);
     put_u32s(&mut rest, &[case.helper_addresses.len() as u32]);
@@ -104,6 +136,10 @@ pub fn write_answer(to: &mut impl Write, answer: &Answer) -> io::Result<()> {
             put_u32s(&mut rest, &page.locations);
             put_u32s(&mut rest, &page.fields);
             put_u32s(&mut rest, &page.targets);
+            if let Some(further) = &page.further {
+                put_u32s(&mut rest, &further.kinds);
+                put_u32s(&mut rest, &further.makers);
+            }
         }
     }
     put_record(to, &rest)
@@ -240,11 +276,15 @@ impl<'a> Parts<'a> {
 fn parse_case(rest: &[u8]) -> Result<Case, &'static str> {
     let mut parts = Parts(rest);
     let flags = parts.bytes(1)?[0];
-    if flags > 3 {
-        return Err("it has a flag other than bits 0 and 1");
+    if flags & !(USE_MBUFF | UPDATE_DATA_PTR | FIVE_TABLES) != 0 {
+        return Err("it has a flag other than bits 0, 1 and 7");
     }
     let code_len = parts.u32()?;
     let table_lens = [parts.u32()?, parts.u32()?, parts.u32()?];
+    let further_lens = match flags & FIVE_TABLES {
+        0 => None,
+        _ => Some([parts.u32()?, parts.u32()?]),
+    };
     let ids = parts.count(HELPER_LIMIT, "it has more than 512 helper ids")?;
     let helper_ids = parts.u32s(ids)?;
     let addresses = parts.count(HELPER_LIMIT, "it has more than 512 helper addresses")?;
@@ -252,10 +292,11 @@ fn parse_case(rest: &[u8]) -> Result<Case, &'static str> {
     let len = parts.count(PROGRAM_LIMIT, "its program is longer than 32768 bytes")?;
     let program = parts.bytes(len)?.to_vec();
     parts.done(Case {
-        use_mbuff: flags & 1 != 0,
-        update_data_ptr: flags & 2 != 0,
+        use_mbuff: flags & USE_MBUFF != 0,
+        update_data_ptr: flags & UPDATE_DATA_PTR != 0,
         code_len,
         table_lens,
+        further_lens,
         helper_ids,
         helper_addresses,
         program,
@@ -275,6 +316,16 @@ fn parse_answer(rest: &[u8]) -> Result<Answer, &'static str> {
         locations: parts.u32s(locations as usize)?,
         fields: parts.u32s(jumps as usize)?,
         targets: parts.u32s(jumps as usize)?,
+        further: parse_further(&mut parts, jumps as usize)?,
     };
     parts.done(Answer::Accepted(page))
+}
+
+/// An answer does not say how many tables its case has. Its length does: no
+/// page is without a jump, so that the kinds have bytes wherever they stand.
+fn parse_further(parts: &mut Parts, jumps: usize) -> Result<Option<Further>, &'static str> {
+    if parts.0.is_empty() {
+        return Ok(None);
+    }
+    Ok(Some(Further { kinds: parts.u32s(jumps)?, makers: parts.u32s(jumps)? }))
 }

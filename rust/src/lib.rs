@@ -92,6 +92,36 @@ pub struct Tables<'a> {
     pub fields: &'a mut [u32],
     /// The slot that each jump goes to; [`EXIT_TARGET`] for the exit.
     pub targets: &'a mut [u32],
+    /// What each jump is: the number of a [`JumpKind`].
+    pub kinds: &'a mut [u32],
+    /// The slot whose code holds each jump; for the prologue's, the number of
+    /// slots that the program has.
+    pub makers: &'a mut [u32],
+}
+
+/// What a jump is; the table of kinds has its number.
+#[derive(Clone, Copy, Debug, PartialEq, Eq)]
+#[non_exhaustive]
+pub enum JumpKind {
+    /// Taken on a condition; so is the jump of MOD by register.
+    Conditional = 1,
+    /// Always taken; so are the prologue's jump and that of DIV by register.
+    Plain = 2,
+    /// A call within the program.
+    LocalCall = 3,
+}
+
+impl JumpKind {
+    /// The kind whose number an entry of the table is.
+    pub fn of(entry: u32) -> Option<JumpKind> {
+        use JumpKind::*;
+        [Conditional, Plain, LocalCall].into_iter().find(|kind| kind.number() == entry)
+    }
+
+    /// 1 to 3.
+    pub fn number(self) -> u32 {
+        self as u32
+    }
 }
 
 /// How much of the buffers a translation has filled.
@@ -99,7 +129,7 @@ pub struct Tables<'a> {
 pub struct Accepted {
     /// Bytes of code.
     pub length: usize,
-    /// Entries of the tables `fields` and `targets`.
+    /// Entries of the tables `fields`, `targets`, `kinds` and `makers`.
     pub jumps: usize,
 }
 
@@ -113,11 +143,11 @@ pub fn translate(
     code: &mut [u8],
     tables: Tables,
 ) -> Result<Accepted, Refusal> {
-    let Tables { locations, fields, targets } = tables;
+    let Tables { locations, fields, targets, kinds, makers } = tables;
     // Each pointer is a slice's, good for its length; what is written is lent
     // by `&mut`, so nothing overlaps it.
     let answer = unsafe {
-        raw::ndakoleem_translate(
+        raw::ndakoleem_translate_2(
             program.as_ptr(),
             program.len(),
             flags.use_mbuff,
@@ -134,6 +164,10 @@ pub fn translate(
             fields.len(),
             targets.as_mut_ptr(),
             targets.len(),
+            kinds.as_mut_ptr(),
+            kinds.len(),
+            makers.as_mut_ptr(),
+            makers.len(),
         )
     };
     match Reason::of(answer.number) {

@@ -15,6 +15,8 @@ pub struct Page {
     locations: [u32; TABLE_ENOUGH],
     fields: [u32; TABLE_ENOUGH],
     targets: [u32; TABLE_ENOUGH],
+    kinds: [u32; TABLE_ENOUGH],
+    makers: [u32; TABLE_ENOUGH],
     accepted: Accepted,
     /// Entries of `locations`.
     entries: usize,
@@ -28,6 +30,8 @@ impl Page {
             locations: [0; TABLE_ENOUGH],
             fields: [0; TABLE_ENOUGH],
             targets: [0; TABLE_ENOUGH],
+            kinds: [0; TABLE_ENOUGH],
+            makers: [0; TABLE_ENOUGH],
             accepted: Accepted { length: 0, jumps: 0 },
             entries: 0,
         }
@@ -45,6 +49,8 @@ impl Page {
             locations: &mut self.locations,
             fields: &mut self.fields,
             targets: &mut self.targets,
+            kinds: &mut self.kinds,
+            makers: &mut self.makers,
         };
         self.accepted = translate(program, flags, helpers, &mut self.code, tables)?;
         self.entries = program.len() / SLOT + 1;
@@ -69,6 +75,16 @@ impl Page {
     /// The slot that each jump goes to, or [`EXIT_TARGET`](crate::EXIT_TARGET).
     pub fn targets(&self) -> &[u32] {
         &self.targets[..self.accepted.jumps]
+    }
+
+    /// What each jump is: [`JumpKind::of`](crate::JumpKind::of) reads an entry.
+    pub fn kinds(&self) -> &[u32] {
+        &self.kinds[..self.accepted.jumps]
+    }
+
+    /// The slot whose code holds each jump, as [`Tables::makers`] explains.
+    pub fn makers(&self) -> &[u32] {
+        &self.makers[..self.accepted.jumps]
     }
 }
 

@@ -18,7 +18,7 @@ pub const SENTENCE_ENOUGH: usize = 200;
 extern "C" {
     /// Every slice is a pointer and its length in elements; none of the memory
     /// may overlap what is lent to be changed.
-    pub fn ndakoleem_translate(
+    pub fn ndakoleem_translate_2(
         program: *const u8,
         program_length: usize,
         use_mbuff: bool,
@@ -35,6 +35,10 @@ extern "C" {
         fields_length: usize,
         targets: *mut u32,
         targets_length: usize,
+        kinds: *mut u32,
+        kinds_length: usize,
+        makers: *mut u32,
+        makers_length: usize,
     ) -> Translation;
 
     /// A refusal in words; the answer is the sentence's length.

@@ -8,8 +8,9 @@ use std::vec;
 use std::vec::Vec;
 
 use crate::{
-    translate, Accepted, Flags, Helpers, Page, Reason, Refusal, Tables, CODE_ENOUGH, CODE_LONGEST,
-    CODE_MAX, CODE_MIN, EXIT_TARGET, HELPERS_MAX, PROGRAM_MAX, SLOTS_MAX, TABLE_ENOUGH,
+    translate, Accepted, Flags, Helpers, JumpKind, Page, Reason, Refusal, Tables, CODE_ENOUGH,
+    CODE_LONGEST, CODE_MAX, CODE_MIN, EXIT_TARGET, HELPERS_MAX, PROGRAM_MAX, SLOTS_MAX,
+    TABLE_ENOUGH,
 };
 
 mod numbers;
@@ -21,17 +22,30 @@ const EXIT_CODE: [u8; 51] = [
     0x00, 0x00, 0xc3, 0x48, 0x81, 0xc4, 0x00, 0x02, 0x00, 0x00, 0x41, 0x5f, 0x41, 0x5e, 0x41, 0x5d,
     0x5b, 0x5d, 0xc3,
 ];
+/// A jump of every kind: the wide load's two slots, JEQ to 7, JA to 4, DIV, MOD,
+/// a local call to 7, EXIT.
+const JUMPS: [[u8; 8]; 8] = [
+    [0x18, 0, 0, 0, 1, 0, 0, 0],
+    [0, 0, 0, 0, 0, 0, 0, 0],
+    [0x15, 0x01, 4, 0, 0, 0, 0, 0],
+    [0x05, 0, 0, 0, 0, 0, 0, 0],
+    [0x3f, 0x10, 0, 0, 0, 0, 0, 0],
+    [0x9f, 0x10, 0, 0, 0, 0, 0, 0],
+    [0x85, 0x10, 0, 0, 0, 0, 0, 0],
+    EXIT,
+];
 const MARK: u32 = 0xabab_abab;
+const TABLES: usize = 5;
 
 /// Everything that a call is lent, marked beforehand.
 struct Lent {
     code: Vec<u8>,
-    tables: [Vec<u32>; 3],
+    tables: [Vec<u32>; TABLES],
 }
 
 impl Lent {
     fn new(code: usize, entries: usize) -> Lent {
-        Lent { code: vec![0xab; code], tables: [0, 1, 2].map(|_| vec![MARK; entries]) }
+        Lent { code: vec![0xab; code], tables: [entries; TABLES].map(|length| vec![MARK; length]) }
     }
 
     fn translate(
@@ -40,8 +54,9 @@ impl Lent {
         flags: Flags,
         helpers: Helpers,
     ) -> Result<Accepted, Refusal> {
-        let [locations, fields, targets] = &mut self.tables;
-        translate(program, flags, helpers, &mut self.code, Tables { locations, fields, targets })
+        let [locations, fields, targets, kinds, makers] = &mut self.tables;
+        let tables = Tables { locations, fields, targets, kinds, makers };
+        translate(program, flags, helpers, &mut self.code, tables)
     }
 
     fn untouched(&self) -> bool {
@@ -68,6 +83,23 @@ fn exit_alone_and_what_is_behind_it() {
     assert_eq!(lent.tables[0], [34, 0, MARK, MARK]);
     assert_eq!(lent.tables[1], [30, MARK, MARK, MARK]);
     assert_eq!(lent.tables[2], [EXIT_TARGET, MARK, MARK, MARK]);
+    assert_eq!(lent.tables[3], [JumpKind::Plain.number(), MARK, MARK, MARK]);
+    assert_eq!(lent.tables[4], [1, MARK, MARK, MARK]);
+}
+
+#[test]
+fn every_kind_of_jump_and_its_maker() -> Result<(), Refusal> {
+    use JumpKind::*;
+    let mut page = Page::new();
+    page.translate(&JUMPS.concat(), Flags::default(), Helpers::default())?;
+    let kinds: Vec<_> = page.kinds().iter().copied().map(JumpKind::of).collect();
+    assert_eq!(kinds, [Plain, Conditional, Plain, Plain, Conditional, LocalCall].map(Some));
+    assert_eq!(page.makers(), [8, 2, 3, 4, 5, 6]);
+    assert_eq!(page.targets(), [EXIT_TARGET, 7, 4, 5, 6, 7]);
+    // The byte ahead of each field: that of JMP, JE, JMP, JMP, JE, CALL.
+    let opcodes = page.fields().iter().map(|field| page.code()[*field as usize - 1]);
+    assert!(opcodes.eq([0xe9, 0x84, 0xe9, 0xe9, 0x84, 0xe8]));
+    Ok(())
 }
 
 #[test]
@@ -80,6 +112,7 @@ fn a_page_owns_what_it_was_given() -> Result<(), Refusal> {
         (page.locations(), page.fields(), page.targets()),
         (&[34, 0][..], &[30][..], &[EXIT_TARGET][..])
     );
+    assert_eq!((page.kinds(), page.makers()), (&[JumpKind::Plain.number()][..], &[1][..]));
     // Refused, it keeps what it had.
     let refusal = page.translate(&[0], Flags::default(), Helpers::default()).expect_err("refused");
     assert_eq!(refusal.reason, Reason::TornSlot);
@@ -93,7 +126,9 @@ fn every_program_finds_room_in_a_page() -> Result<(), Refusal> {
     let flags = Flags { use_mbuff: true, update_data_ptr: true };
     let mut page = Page::new();
     assert_eq!(page.translate(&longest, flags, Helpers::default())?.len(), CODE_LONGEST);
-    assert_eq!((page.locations().len(), page.targets().len()), (TABLE_ENOUGH, TABLE_ENOUGH));
+    let lengths = [page.locations(), page.fields(), page.targets(), page.kinds(), page.makers()]
+        .map(<[u32]>::len);
+    assert_eq!(lengths, [TABLE_ENOUGH; TABLES]);
     Ok(())
 }
 
@@ -121,17 +156,19 @@ fn a_listed_helper_is_called() {
 
 #[test]
 fn buffers_keep_their_own_lengths() {
-    let reason = |code, entries: [usize; 3]| {
+    let reason = |code, entries: [usize; TABLES]| {
         let mut lent = Lent::new(code, 0);
         lent.tables = entries.map(|length| vec![MARK; length]);
         let refusal =
             lent.translate(&EXIT, Flags::default(), Helpers::default()).expect_err("refused");
         refusal.reason
     };
-    assert_eq!(reason(CODE_MIN - 1, [2, 2, 2]), Reason::CodeTooShort);
-    assert_eq!(reason(CODE_MAX + 1, [2, 2, 2]), Reason::CodeTooLong);
-    for short in [[1, 2, 2], [2, 1, 2], [2, 2, 1]] {
-        assert_eq!(reason(CODE_MIN, short), Reason::TableTooShort);
+    assert_eq!(reason(CODE_MIN - 1, [2; TABLES]), Reason::CodeTooShort);
+    assert_eq!(reason(CODE_MAX + 1, [2; TABLES]), Reason::CodeTooLong);
+    for short in 0..TABLES {
+        let mut entries = [2; TABLES];
+        entries[short] = 1;
+        assert_eq!(reason(CODE_MIN, entries), Reason::TableTooShort, "table {short}");
     }
 }
 
@@ -177,4 +214,12 @@ fn every_number_is_its_reason() {
         assert_eq!(Reason::of(number).map(Reason::number), Some(number));
     }
     assert_eq!(Reason::of(0), None);
+}
+
+#[test]
+fn every_entry_is_its_kind() {
+    for number in 1..=3 {
+        assert_eq!(JumpKind::of(number).map(JumpKind::number), Some(number));
+    }
+    assert_eq!((JumpKind::of(0), JumpKind::of(4)), (None, None));
 }

@@ -13,13 +13,14 @@ mod stream;
 use std::fs::File;
 use std::io::BufReader;
 
-use ndakoleem::{translate, Flags, Helpers, Tables, CODE_MAX, SLOTS_MAX};
-use stream::{Answer, Case, Records, Translation};
+use ndakoleem::{translate, Accepted, Flags, Helpers, Tables, CODE_MAX, SLOTS_MAX};
+use stream::{Answer, Case, Further, Records, Translation};
 
 /// One byte more than a page may have, and more entries than any program
 /// needs: what is longer is cut to these, which no answer can tell.
 const CODE: usize = CODE_MAX + 1;
 const ENTRIES: usize = 2 * SLOTS_MAX;
+const TABLES: usize = 5;
 
 fn byte_mark(at: usize) -> u8 {
     (at * 31 + 7) as u8
@@ -29,39 +30,44 @@ fn entry_mark(at: usize) -> u32 {
     0xa5a5_0000 + at as u32
 }
 
-fn marked(tables: [u32; 3]) -> [Vec<u32>; 3] {
-    tables.map(|length| (0..(length as usize).min(ENTRIES)).map(entry_mark).collect())
+/// Tables as long as the case wants them; a case with three has n + 1 entries
+/// for the kinds and for the makers.
+fn marked(case: &Case) -> [Vec<u32>; TABLES] {
+    let [locations, fields, targets] = case.table_lens;
+    let [kinds, makers] = case.further_lens.unwrap_or([case.slots() as u32 + 1; 2]);
+    [locations, fields, targets, kinds, makers]
+        .map(|length| (0..(length as usize).min(ENTRIES)).map(entry_mark).collect())
 }
 
-fn untouched(code: &[u8], from: usize, tables: [(&[u32], usize); 3]) -> bool {
-    let bytes = (from..code.len()).all(|at| code[at] == byte_mark(at));
-    bytes
-        && tables
-            .iter()
-            .all(|(table, from)| (*from..table.len()).all(|at| table[at] == entry_mark(at)))
+/// Whether the code and each table have their marks from there on.
+fn untouched(code: (&[u8], usize), tables: &[Vec<u32>; TABLES], from: [usize; TABLES]) -> bool {
+    let (code, first) = code;
+    let bytes = (first..code.len()).all(|at| code[at] == byte_mark(at));
+    let mut tables = tables.iter().zip(from);
+    bytes && tables.all(|(table, first)| (first..table.len()).all(|at| table[at] == entry_mark(at)))
 }
 
 /// What the library answers, in the oracle's form.
 fn answer(case: &Case) -> Answer {
     let mut code: Vec<u8> = (0..(case.code_len as usize).min(CODE)).map(byte_mark).collect();
-    let [mut locations, mut fields, mut targets] = marked(case.table_lens);
+    let mut lent = marked(case);
+    let [locations, fields, targets, kinds, makers] = &mut lent;
+    let tables = Tables { locations, fields, targets, kinds, makers };
     let flags = Flags { use_mbuff: case.use_mbuff, update_data_ptr: case.update_data_ptr };
     let helpers = Helpers { ids: &case.helper_ids, addresses: &case.helper_addresses };
-    let tables = Tables { locations: &mut locations, fields: &mut fields, targets: &mut targets };
     match translate(&case.program, flags, helpers, &mut code, tables) {
         Err(refusal) => {
-            assert!(untouched(&code, 0, [(&locations, 0), (&fields, 0), (&targets, 0)]));
+            assert!(untouched((&code, 0), &lent, [0; TABLES]));
             Answer::Refused { number: refusal.reason.number(), slot: refusal.slot as u32 }
         }
-        Ok(done) => {
-            let entries = case.slots() + 1;
-            let tails = [(&locations[..], entries), (&fields, done.jumps), (&targets, done.jumps)];
-            assert!(untouched(&code, done.length, tails));
-            code.truncate(done.length);
-            locations.truncate(entries);
-            fields.truncate(done.jumps);
-            targets.truncate(done.jumps);
-            Answer::Accepted(Translation { code, locations, fields, targets })
+        Ok(Accepted { length, jumps }) => {
+            let filled = [case.slots() + 1, jumps, jumps, jumps, jumps];
+            assert!(untouched((&code, length), &lent, filled));
+            code.truncate(length);
+            lent.iter_mut().zip(filled).for_each(|(table, entries)| table.truncate(entries));
+            let [locations, fields, targets, kinds, makers] = lent;
+            let further = case.further_lens.map(|_| Further { kinds, makers });
+            Answer::Accepted(Translation { code, locations, fields, targets, further })
         }
     }
 }
@@ -84,4 +90,46 @@ fn every_answer_is_the_stored_one() {
     }
     assert!(count > 0 && answers.next_answer().expect("answers").is_none());
     println!("{count} cases");
+}
+
+fn bytes_of(numbers: &[u32]) -> Vec<u8> {
+    numbers.iter().flat_map(|number| number.to_le_bytes()).collect()
+}
+
+/// Bytes of a case with five tables: a page of 4,096 bytes, no helpers, and a
+/// wide load, JEQ to 7, JA to 4, DIV, MOD, a local call to 7 and EXIT.
+fn five_tables(lengths: [u32; TABLES]) -> Vec<u8> {
+    let program = [
+        [0x18, 0, 0, 0, 1, 0, 0, 0],
+        [0, 0, 0, 0, 0, 0, 0, 0],
+        [0x15, 0x01, 4, 0, 0, 0, 0, 0],
+        [0x05, 0, 0, 0, 0, 0, 0, 0],
+        [0x3f, 0x10, 0, 0, 0, 0, 0, 0],
+        [0x9f, 0x10, 0, 0, 0, 0, 0, 0],
+        [0x85, 0x10, 0, 0, 0, 0, 0, 0],
+        [0x95, 0, 0, 0, 0, 0, 0, 0],
+    ];
+    let (flags, page, lists) = (vec![1 << 7], bytes_of(&[4_096]), bytes_of(&[0, 0]));
+    let program = [bytes_of(&[8 * 8]), program.concat()].concat();
+    let rest = [flags, page, bytes_of(&lengths), lists, program].concat();
+    [bytes_of(&[rest.len() as u32]), rest].concat()
+}
+
+#[test]
+fn a_case_with_five_tables_shows_kinds_and_makers() {
+    let answered = |lengths| {
+        let bytes = five_tables(lengths);
+        let case = stream::case_records(&bytes[..]).next_case().expect("cases").expect("a case");
+        answer(&case)
+    };
+    for lengths in [[9; TABLES], [9, 9, 9, 10, 11]] {
+        let shown = answered(lengths);
+        let mut bytes = Vec::new();
+        stream::write_answer(&mut bytes, &shown).expect("written");
+        assert!(bytes.ends_with(&bytes_of(&[2, 1, 2, 2, 1, 3, 8, 2, 3, 4, 5, 6])));
+        assert!(stream::answer_records(&bytes[..]).next_answer() == Ok(Some(shown)));
+    }
+    for short in [[9, 9, 9, 8, 9], [9, 9, 9, 9, 8]] {
+        assert!(answered(short) == Answer::Refused { number: 4, slot: 0 });
+    }
 }

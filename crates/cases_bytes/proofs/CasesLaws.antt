@@ -7,21 +7,19 @@ use native.Mathlib.Omega.{arith}
 use native.Mathlib.Nat.{add-zero, zero-add}
 use borrow.Author.Tests.{ltb-false, eqb-true, not-false}
 use lib.Dec.{eqb}
-use lib.ListN.{length, getD, take, drop, set}
+use lib.ListN.{length, length-append, getD, take, drop, set}
 use lib.Seq.{drop-cons, drop-length, length-take-le, append-snoc, set-at}
 use Rattle.base.specs.Pick.{pick}
 use Rattle.base.specs.Table.{values}
 use Rattle.cases_problems.specs.Problems.{problemNumber}
 use Rattle.cases_problems.specs.declared.Problem.{Problem}
 use Rattle.cases_bytes.specs.declared.parts.Case.{Case}
-use Rattle.cases_bytes.specs.Cases.{_⊘_, Check, addressesAt, addressesIn, caseOf, checks, filled, firstOf, idsIn, noCase, partsOf, programAt, wrongWith}
+use Rattle.cases_bytes.specs.Cases.{_⊘_, Check, addressesIn, caseOf, checks, filled, firstOf, idsIn, lengthsEnd, noCase, partsOf, programAt, wrongWith}
 
 -- where the parts are of a case with which nothing is wrong
 pub record Within (b : List ℕ) (mostIds mostAddresses : ℕ) : Type 0 where
-  pub long : 21 ≤ length b
   pub ids : idsIn b ≤ mostIds
   pub addresses : addressesIn b ≤ mostAddresses
-  pub begins : addressesAt b ≤ length b
   pub program : programAt b ≤ length b
 
 -- no check of a row found anything
@@ -47,10 +45,8 @@ within b mostIds mostAddresses e =
     let n : (k : ℕ) → ¬ (suc k ≡ 0) = λ k z. omega (arith, z) in
     let a = clear (checks b mostIds mostAddresses) (n 8, (n 4, (n 8, (n 5, (n 8, (n 6, (n 8, (n 7, (n 8, tt))))))))) e in
     record {
-      long = ltb-false (length b) 21 (a .1 .1 .0);
       ids = ltb-false mostIds (idsIn b) (a .1 .1 .1 .0);
       addresses = ltb-false mostAddresses (addressesIn b) (a .1 .1 .1 .1 .1 .0);
-      begins = ltb-false (length b) (addressesAt b) (a .1 .1 .1 .1 .0);
       program = ltb-false (length b) (programAt b) (a .1 .1 .1 .1 .1 .1 .0);
     }
 
@@ -64,8 +60,7 @@ sound b mostIds mostAddresses w t e f g =
 pub record Parted (r : Case) (b : List ℕ) (mostIds mostAddresses : ℕ) : Type 0 where
   pub ids : r .ids ≤ mostIds
   pub addresses : r .addresses ≤ mostAddresses
-  pub ids-end : 25 + 4 * r .ids ≤ length b
-  pub addresses-end : 29 + 4 * r .ids + 8 * r .addresses ≤ length b
+  pub addresses-end : lengthsEnd b + 12 + 4 * r .ids + 8 * r .addresses ≤ length b
   pub program : r .program ≤ length b
 
 pub parted : (r : Case) (b : List ℕ) (mostIds mostAddresses : ℕ) (w : Problem) (t : Bool)
@@ -74,10 +69,10 @@ pub parted : (r : Case) (b : List ℕ) (mostIds mostAddresses : ℕ) (w : Proble
     → not t ≡ false
     → r ≡ partsOf b
     → Parted r b mostIds mostAddresses
-unfolding partsOf addressesAt programAt
+unfolding partsOf programAt
 parted r b mostIds mostAddresses w t found nothing left e =
     let s = sound b mostIds mostAddresses w t found nothing left in
-    rw e record { ids = s .ids; addresses = s .addresses; ids-end = s .begins; addresses-end = s .program; program = s .program }
+    rw e record { ids = s .ids; addresses = s .addresses; addresses-end = s .program; program = s .program }
 
 pub case-wrong : (b : List ℕ) (mostIds mostAddresses : ℕ) (w : Problem)
     → w ≡ wrongWith b mostIds mostAddresses → eqb (problemNumber w) 0 ≡ false → noCase w ≡ caseOf b mostIds mostAddresses
@@ -119,3 +114,7 @@ unfolding filled
 filled-front f n l h =
     let e : length (take n l) ≡ n = length-take-le n l h in
     rw (drop-length (take n l), e, append-nil)
+
+pub filled-long : (f : ℕ → ℕ) (n : ℕ) (l : List ℕ) → n ≤ length l → n ≤ length (filled f (length (take n l)) (take n l) ++ drop n l)
+unfolding filled
+filled-long f n l h = rw (filled-front f n l h) (omega (arith, length-append (values f 0 n) (drop n l), length-values f 0 n))

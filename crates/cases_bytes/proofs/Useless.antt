@@ -16,8 +16,8 @@ use Rattle.jit.specs.declared.Refusal.{Refusal}
 use Rattle.jit.specs.declared.Refusal.the-variants.{Torn}
 use Rattle.cases_problems.specs.Problems.{problemNumber}
 use Rattle.cases_bytes.specs.Stored.{Stored}
-use Rattle.cases_bytes.specs.Answers.{framed, refusedBytes, acceptedBytes, acceptedFits, refusalLine}
-use Rattle.cases_bytes.specs.Cases.{idsIn, addressesAt, addressesIn, programAt, programIn, wrongWith, partsOf, noCase, caseOf, idAt, addressAt, filled}
+use Rattle.cases_bytes.specs.Answers.{framed, refusedBytes, acceptedBytes, roomFor, refusalLine}
+use Rattle.cases_bytes.specs.Cases.{lengthsEnd, idsIn, addressesAt, addressesIn, programAt, programIn, wrongWith, partsOf, noCase, caseOf, idAt, addressAt, filled}
 
 -- a byte of what was put, where it fitted
 byte-at : {l l′ ys : List ℕ} {r : ℕ} (fits : Bool) → fits ≡ true → Stored fits l l′ r ys → (k : ℕ) → k < length ys → getD l′ k 0 ≡ getD ys k 0
@@ -45,9 +45,9 @@ module _ (l l′ : List ℕ) (r : ℕ) (room : 9 ≤ length l) (s : Stored (leb 
   unfolding refusedBytes framed
   no-refusal-put e = let n : r ≡ 9 = rw (le-leb 9 (length l) room) at (s .size) in omega (arith, e, n)
 
--- put_accepted, of one byte of code, two locations and one jump: J where n + 1 stands; the code left out
-module _ (l l′ : List ℕ) (r : ℕ) (fits : acceptedFits l (195 ∷ []) (34 ∷ 35 ∷ []) (30 ∷ []) (1 ∷ []) ≡ true)
-    (s : Stored (acceptedFits l (195 ∷ []) (34 ∷ 35 ∷ []) (30 ∷ []) (1 ∷ [])) l l′ r (acceptedBytes (195 ∷ []) (34 ∷ 35 ∷ []) (30 ∷ []) (1 ∷ []))) where
+-- put_accepted, of one byte of code, two locations and one jump: J where n + 1 stands; the code left out; kinds and makers exchanged, and left out
+module _ (l l′ : List ℕ) (r : ℕ) (fits : roomFor (length l) 1 2 1 1 1 1 ≡ true)
+    (s : Stored (roomFor (length l) 1 2 1 1 1 1) l l′ r (acceptedBytes (195 ∷ []) (34 ∷ 35 ∷ []) (30 ∷ []) (1 ∷ []) (2 ∷ []) (7 ∷ []))) where
   pub counts-swapped : getD l′ 9 0 ≡ 2 → ⊥
   unfolding acceptedBytes framed
   counts-swapped e = let b = byte-at _ fits s 9 (omega arith) in omega (arith, e, b)
@@ -55,6 +55,14 @@ module _ (l l′ : List ℕ) (r : ℕ) (fits : acceptedFits l (195 ∷ []) (34 �
   pub no-code : getD l′ 17 0 ≡ getD l′ 18 0 → ⊥
   unfolding acceptedBytes framed
   no-code e = let b = byte-at _ fits s 17 (omega arith) in let c = byte-at _ fits s 18 (omega arith) in omega (arith, e, b, c)
+
+  pub kinds-and-makers-exchanged : getD l′ 34 0 ≡ 7 → ⊥
+  unfolding acceptedBytes framed
+  kinds-and-makers-exchanged e = let b = byte-at _ fits s 34 (omega arith) in omega (arith, e, b)
+
+  pub no-makers : r ≡ 38 → ⊥
+  unfolding acceptedBytes framed
+  no-makers e = let n : r ≡ 42 = rw fits at (s .size) in omega (arith, e, n)
 
 -- put_refusal_line: the slot ahead of the number; no newline
 pub slot-first : refusalLine (Torn (record { number = 3 })) ≡ ascii "refused 3 6" ++ (10 ∷ []) → ⊥
@@ -83,11 +91,11 @@ small =
     ∷ []
 
 pub flag-unseen : caseOf small 512 512 .«use_mbuff» ≡ false → ⊥
-unfolding caseOf partsOf noCase wrongWith idsIn addressesAt addressesIn programAt programIn
+unfolding caseOf partsOf noCase wrongWith lengthsEnd idsIn addressesAt addressesIn programAt programIn
 flag-unseen e = let z : _≡_ {A = ℕ} 0 1 = cc in omega arith
 
 pub program-early : caseOf small 512 512 .program ≡ 37 → ⊥
-unfolding caseOf partsOf noCase wrongWith idsIn addressesAt addressesIn programAt programIn
+unfolding caseOf partsOf noCase wrongWith lengthsEnd idsIn addressesAt addressesIn programAt programIn
 program-early e = omega (arith, e)
 
 pub id-backwards : filled (idAt small 21) 1 (0 ∷ []) ≡ (100728832 ∷ []) → ⊥
@@ -95,8 +103,41 @@ unfolding filled
 id-backwards e = omega (arith, ap (λ (t : List ℕ). getD t 0 0) e)
 
 pub byte-too-many : problemNumber (caseOf (small ++ (0 ∷ [])) 512 512 .problem) ≡ 0 → ⊥
-unfolding caseOf partsOf noCase wrongWith idsIn addressesAt addressesIn programAt programIn
+unfolding caseOf partsOf noCase wrongWith lengthsEnd idsIn addressesAt addressesIn programAt programIn
 byte-too-many e = omega (arith, e)
+
+-- .. of one that has bit 7 too and says its two further tables: both read as if they were not said; the same flag taken for another
+abbrev pub named : List ℕ
+named =
+    129
+    ∷ 0 ∷ 16 ∷ 0 ∷ 0
+    ∷ 9 ∷ 0 ∷ 0 ∷ 0
+    ∷ 9 ∷ 0 ∷ 0 ∷ 0
+    ∷ 9 ∷ 0 ∷ 0 ∷ 0
+    ∷ 5 ∷ 0 ∷ 0 ∷ 0
+    ∷ 6 ∷ 0 ∷ 0 ∷ 0
+    ∷ 0 ∷ 0 ∷ 0 ∷ 0
+    ∷ 0 ∷ 0 ∷ 0 ∷ 0
+    ∷ 1 ∷ 0 ∷ 0 ∷ 0
+    ∷ 149
+    ∷ []
+
+pub kinds-unread : caseOf named 512 512 .kinds ≡ 1 → ⊥
+unfolding caseOf partsOf noCase wrongWith lengthsEnd idsIn addressesAt addressesIn programAt programIn
+kinds-unread e = omega (arith, e)
+
+pub makers-read-as-kinds : caseOf named 512 512 .makers ≡ 5 → ⊥
+unfolding caseOf partsOf noCase wrongWith lengthsEnd idsIn addressesAt addressesIn programAt programIn
+makers-read-as-kinds e = omega (arith, e)
+
+pub bit-7-taken-for-bit-1 : caseOf named 512 512 .«update_data_ptr» ≡ true → ⊥
+unfolding caseOf partsOf noCase wrongWith lengthsEnd idsIn addressesAt addressesIn programAt programIn
+bit-7-taken-for-bit-1 e = let z : _≡_ {A = ℕ} 0 1 = cc in omega arith
+
+-- .. and of one without it: a further table of no entries
+pub unsaid-empty : caseOf small 512 512 .kinds ≡ 0 → ⊥
+unfolding caseOf partsOf noCase wrongWith lengthsEnd idsIn addressesAt addressesIn programAt programIn
+unsaid-empty e = omega (arith, e)
 
 -- number_at and count_at: the highest byte first; one byte alone. address_at: its halves exchanged; the low half alone
 pub number-backwards : le4 (1 ∷ 2 ∷ 3 ∷ 4 ∷ []) 0 ≡ 16909060 → ⊥

@@ -24,23 +24,27 @@ abbrev pub entries : List ℕ → List ℕ
 entries [] = []
 entries (x ∷ xs) = le32 x ++ entries xs
 
--- accepted: 0; L, J and n + 1; the code; the locations, the jump fields and the jump targets
-unfoldable pub acceptedBytes : (code locations fields targets : List ℕ) → List ℕ
-acceptedBytes c l f t = framed (0 ∷ (le32 (length c) ++ (le32 (length f) ++ (le32 (length l) ++ (c ++ (entries l ++ (entries f ++ entries t)))))))
+-- accepted: 0; L, J and n + 1; the code; the locations, the jumps' fields and targets; their kinds and makers, which are none where the case
+-- does not ask for them
+abbrev pub tables : (locations fields targets kinds makers : List ℕ) → List ℕ
+tables l f t k m = entries l ++ (entries f ++ (entries t ++ (entries k ++ entries m)))
 
--- its first 17 bytes, from the four lengths alone
-unfoldable pub acceptedHead : (code locations fields targets : ℕ) → List ℕ
-acceptedHead c l f t = le32 (13 + c + 4 * l + 4 * f + 4 * t) ++ (0 ∷ (le32 c ++ (le32 f ++ le32 l)))
+unfoldable pub acceptedBytes : (code locations fields targets kinds makers : List ℕ) → List ℕ
+acceptedBytes c l f t k m = framed (0 ∷ (le32 (length c) ++ (le32 (length f) ++ (le32 (length l) ++ (c ++ tables l f t k m)))))
+
+-- its first 17 bytes, from lengths alone, the last that of all tables together
+unfoldable pub acceptedHead : (code locations fields all : ℕ) → List ℕ
+acceptedHead c l f all = le32 (13 + c + 4 * all) ++ (0 ∷ (le32 c ++ (le32 f ++ le32 l)))
 
 -- what there is room for: the nine bytes of a refusal
 abbrev pub refusedFits : List ℕ → Bool
 refusedFits o = leb 9 (length o)
 
 -- .. the longest answer, with the largest page and tables that are lent
-unfoldable pub acceptedFits : (out code locations fields targets : List ℕ) → Bool
-acceptedFits o c l f t =
-    leb longestAnswer (length o)
-    && (leb (length c) lentPage && (leb (length l) lentTable && (leb (length f) lentTable && leb (length t) lentTable)))
+unfoldable pub roomFor : (out code locations fields targets kinds makers : ℕ) → Bool
+roomFor o c l f t k m =
+    leb longestAnswer o
+    && (leb c lentPage && (leb l lentTable && (leb f lentTable && (leb t lentTable && (leb k lentTable && leb m lentTable)))))
 
 -- as `refused 6 0`
 unfoldable pub refusalLine : Refusal → List ℕ

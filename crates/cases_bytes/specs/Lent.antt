@@ -39,11 +39,23 @@ Stored fits out r ys = S.Stored fits (held out) (now (out .exit)) r ys
 abbrev pub refusedFits : Lent → Bool
 refusedFits out = A.refusedFits (held out)
 
-abbrev pub acceptedFits : (out code locations fields targets : Lent) → Bool
-acceptedFits out code locations fields targets = A.acceptedFits (held out) (held code) (held locations) (held fields) (held targets)
+abbrev pub acceptedFits : (out code locations fields targets kinds makers : Lent) → Bool
+acceptedFits out code locations fields targets kinds makers =
+    A.roomFor (lengthOf out) (lengthOf code) (lengthOf locations) (lengthOf fields) (lengthOf targets) (lengthOf kinds) (lengthOf makers)
 
-abbrev pub acceptedBytes : (code locations fields targets : Lent) → List ℕ
-acceptedBytes code locations fields targets = A.acceptedBytes (held code) (held locations) (held fields) (held targets)
+abbrev pub tables : (locations fields targets kinds makers : Lent) → List ℕ
+tables locations fields targets kinds makers = A.tables (held locations) (held fields) (held targets) (held kinds) (held makers)
+
+abbrev pub acceptedBytes : (code locations fields targets kinds makers : Lent) → List ℕ
+acceptedBytes code locations fields targets kinds makers =
+    A.acceptedBytes (held code) (held locations) (held fields) (held targets) (held kinds) (held makers)
+
+-- where the lengths of a case end, and the length of a further table
+abbrev pub lengthsEnd : Lent → ℕ
+lengthsEnd body = C.lengthsEnd (held body)
+
+abbrev pub further : Lent → (at unsaid : ℕ) → ℕ
+further body at unsaid = C.further (held body) at unsaid
 
 -- the case in a body, where `ids` and `addresses` are there for its helpers, and what is wrong with it
 abbrev pub caseOf : (body ids addresses : Lent) → Case

@@ -9,7 +9,7 @@ abbrev pub lentTable : ℕ
 lentTable = 4096
 
 abbrev pub longestAnswer : ℕ
-longestAnswer = 17 + lentPage + 12 * lentTable
+longestAnswer = 17 + lentPage + 20 * lentTable
 
 abbrev pub longestOfCase : ℕ
 longestOfCase = 32768

@@ -3,8 +3,8 @@ ghost use mathlib.Core.Path.{_≡_};
 ghost use Prim.Native.Nat.{_+_, _*_, _≤_, min};
 ghost use lib.ListN.{length};
 ghost use Rattle.text.specs.Lent.{Says};
-ghost use Rattle.cases_bytes.specs.Lent.{held, Put, Stored, refusedFits, acceptedFits, acceptedBytes};
-ghost use Rattle.cases_bytes.specs.Answers.{refusedBytes, entries, acceptedHead, refusalLine};
+ghost use Rattle.cases_bytes.specs.Lent.{held, Put, Stored, refusedFits, acceptedFits, tables, acceptedBytes};
+ghost use Rattle.cases_bytes.specs.Answers.{refusedBytes, entries, acceptedHead, roomFor, refusalLine};
 ghost use Rattle.cases_bytes.specs.Limits.{lentPage, lentTable};
 use crate::limits;
 use crate::numbers;
@@ -71,12 +71,13 @@ pub fn put_refused(out: &mut [u8], refusal: Refusal) -> usize
     numbers::put_number(out, b, slot_number(refusals::slot_of(refusal)))
 }
 
-// What stands in front of the code: the length of the rest, and how much there is of each part.
-fn put_lengths(out: &mut [u8], code: usize, ends: usize, jumps: usize, targets: usize) -> usize
-    requires { ⌜ (17 ≤ length (now out)) × ((code ≤ lentPage) × ((ends ≤ lentTable) × ((jumps ≤ lentTable) × (targets ≤ lentTable)))) ⌝ }
-    ensures { λ r. ⌜ Put out 0 r (acceptedHead code ends jumps targets) ⌝ }
+// What stands in front of the code: the length of the rest, and how much there is of each part. `all` is how many entries the tables have
+// together.
+fn put_lengths(out: &mut [u8], code: usize, ends: usize, jumps: usize, all: usize) -> usize
+    requires { ⌜ (17 ≤ length (now out)) × ((code ≤ lentPage) × ((ends ≤ lentTable) × ((jumps ≤ lentTable) × (all ≤ 5 * lentTable)))) ⌝ }
+    ensures { λ r. ⌜ Put out 0 r (acceptedHead code ends jumps all) ⌝ }
 {
-    let total = 13 + code + 4 * ends + 4 * jumps + 4 * targets;
+    let total = 13 + code + 4 * all;
     let a = numbers::put_number(out, 0, total as u32);
     let b = numbers::put_byte(out, a, 0);
     let c = numbers::put_number(out, b, code as u32);
@@ -84,41 +85,87 @@ fn put_lengths(out: &mut [u8], code: usize, ends: usize, jumps: usize, targets: 
     numbers::put_number(out, d, ends as u32)
 }
 
-// A translation: just the code, locations, jump fields and jump targets that belong to it. Answers how many bytes it is, or 0 where
-// they do not fit.
+// Whether there is room for the longest answer, and no part is longer than what is lent at most; all by their lengths.
+fn is_room(
+    out: usize,
+    code: usize,
+    locations: usize,
+    fields: usize,
+    targets: usize,
+    kinds: usize,
+    makers: usize,
+) -> bool
+    ensures { λ r. ⌜ r ≡ roomFor out code locations fields targets kinds makers ⌝ }
+{
+    if out < limits::ANSWER {
+        return false;
+    }
+    if limits::PAGE < code {
+        return false;
+    }
+    if limits::TABLE < locations {
+        return false;
+    }
+    if limits::TABLE < fields {
+        return false;
+    }
+    if limits::TABLE < targets {
+        return false;
+    }
+    if limits::TABLE < kinds {
+        return false;
+    }
+    makers <= limits::TABLE
+}
+
+// The tables, one behind the other, and the next place.
+fn put_tables(
+    out: &mut [u8],
+    at: usize,
+    locations: &[u32],
+    fields: &[u32],
+    targets: &[u32],
+    kinds: &[u32],
+    makers: &[u32],
+) -> usize
+    requires { ⌜ at + 4 * (length (now locations) + length (now fields) + length (now targets) + length (now kinds) + length (now makers))
+        ≤ length (now out) ⌝ }
+    ensures { λ r. ⌜ Put out at r (tables locations fields targets kinds makers) ⌝ }
+{
+    let a = put_table(out, at, locations);
+    let b = put_table(out, a, fields);
+    let c = put_table(out, b, targets);
+    let d = put_table(out, c, kinds);
+    put_table(out, d, makers)
+}
+
+// A translation: just the code, locations, jump fields and jump targets that belong to it, and the kinds and makers, or none of those. Answers
+// how many bytes it is, or 0 where they do not fit.
 pub fn put_accepted(
     out: &mut [u8],
     code: &[u8],
     locations: &[u32],
     fields: &[u32],
     targets: &[u32],
+    kinds: &[u32],
+    makers: &[u32],
 ) -> usize
-    ensures { λ r. ⌜ Stored (acceptedFits out code locations fields targets) out r (acceptedBytes code locations fields targets) ⌝ }
+    ensures { λ r. ⌜ Stored (acceptedFits out code locations fields targets kinds makers) out r
+        (acceptedBytes code locations fields targets kinds makers) ⌝ }
 {
-    if out.len() < limits::ANSWER {
-        return 0;
-    }
-    if limits::PAGE < code.len() {
-        return 0;
-    }
-    if limits::TABLE < locations.len() {
-        return 0;
-    }
-    if limits::TABLE < fields.len() {
-        return 0;
-    }
-    if limits::TABLE < targets.len() {
-        return 0;
-    }
-    let at = put_lengths(
-        out,
+    if !is_room(
+        out.len(),
         code.len(),
         locations.len(),
         fields.len(),
         targets.len(),
-    );
-    let b = put_code(out, at, code);
-    let c = put_table(out, b, locations);
-    let d = put_table(out, c, fields);
-    put_table(out, d, targets)
+        kinds.len(),
+        makers.len(),
+    ) {
+        return 0;
+    }
+    let all = locations.len() + fields.len() + targets.len() + kinds.len() + makers.len();
+    let counted = put_lengths(out, code.len(), locations.len(), fields.len(), all);
+    let at = put_code(out, counted, code);
+    put_tables(out, at, locations, fields, targets, kinds, makers)
 }

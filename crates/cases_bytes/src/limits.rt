@@ -12,7 +12,7 @@ pub const HELPERS: usize = 512;
 
 pub const PROGRAM: usize = 32768;
 
-pub const CASE: usize = 29 + 12 * HELPERS + PROGRAM;
+pub const CASE: usize = 37 + 12 * HELPERS + PROGRAM;
 
-// No answer is longer: 17 bytes in front, the page and three tables.
-pub const ANSWER: usize = 17 + PAGE + 12 * TABLE;
+// No answer is longer: 17 bytes in front, the page and five tables.
+pub const ANSWER: usize = 17 + PAGE + 20 * TABLE;

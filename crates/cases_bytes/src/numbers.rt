@@ -7,7 +7,7 @@ ghost use Rattle.base.specs.Bytes.{le32};
 ghost use Rattle.cases_bytes.specs.Lent.{numberAt, wideAt, Put};
 
 // The value of a byte in a wider number.
-fn wide(x: u8) -> u32
+pub fn wide(x: u8) -> u32
     ensures { λ r. ⌜ (r ≡ x) × (r < 256) ⌝ }
 {
     x as u32

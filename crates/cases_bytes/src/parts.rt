@@ -1,9 +1,10 @@
 // A case taken apart.
 ghost use mathlib.Core.Path.{_≡_};
-ghost use Prim.Native.Nat.{_+_, _*_, _≤_};
+ghost use Prim.Native.Nat.{_+_, _*_, _≤_, _<_};
 ghost use lib.ListN.{length};
-ghost use Rattle.cases_bytes.specs.Cases.{addressesAt, noCase};
-ghost use Rattle.cases_bytes.specs.Lent.{lengthOf, caseOf, wrongWith, partsOf, idAt, addressAt, Filled, Inside};
+ghost use Rattle.cases_bytes.specs.Cases.{lengthsEnd as Cases·lengthsEnd};
+ghost use Rattle.cases_bytes.specs.Cases.{programAt, noCase};
+ghost use Rattle.cases_bytes.specs.Lent.{lengthOf, lengthsEnd, caseOf, wrongWith, further, partsOf, idAt, addressAt, Filled, Inside};
 use crate::limits;
 use crate::numbers;
 use cases_problems::Problem;
@@ -14,10 +15,14 @@ pub struct Case {
     pub problem: Problem,
     pub use_mbuff: bool,
     pub update_data_ptr: bool,
+    // The answer has the kinds and makers of the jumps too.
+    pub named: bool,
     pub code: usize,
     pub locations: usize,
     pub fields: usize,
     pub targets: usize,
+    pub kinds: usize,
+    pub makers: usize,
     pub ids: usize,
     pub addresses: usize,
     pub program: usize,
@@ -30,14 +35,25 @@ fn no_case(problem: Problem) -> Case
         problem,
         use_mbuff: false,
         update_data_ptr: false,
+        named: false,
         code: 0,
         locations: 0,
         fields: 0,
         targets: 0,
+        kinds: 0,
+        makers: 0,
         ids: 0,
         addresses: 0,
         program: 0,
     }
+}
+
+// Where the lengths of the page and the tables end: bit 7 of the flags brings two more.
+fn lengths_end(body: &[u8]) -> usize
+    requires { ⌜ 0 < length (now body) ⌝ }
+    ensures { λ r. ⌜ (r ≡ lengthsEnd body) × (r ≤ 25) ⌝ }
+{
+    (17 + 8 * (numbers::wide(body[0]) / 128)) as usize
 }
 
 // The parts have to fill the body, and the helpers to fit what is there for them.
@@ -47,28 +63,29 @@ fn wrong_with(body: &[u8], most_ids: usize, most_addresses: usize) -> Problem
     if body.len() == 0 {
         return Problem::Unfilled;
     }
-    if 3 < body[0] {
+    if 3 < body[0] % 128 {
         return Problem::OtherFlags;
     }
-    if body.len() < 21 {
+    let end = lengths_end(body);
+    if body.len() < end + 4 {
         return Problem::Unfilled;
     }
-    let ids = numbers::count_at(body, 17);
+    let ids = numbers::count_at(body, end);
     if most_ids < ids {
         return Problem::ManyIds;
     }
-    if body.len() < 25 + 4 * ids {
+    if body.len() < end + 8 + 4 * ids {
         return Problem::Unfilled;
     }
-    let addresses = numbers::count_at(body, 21 + 4 * ids);
+    let addresses = numbers::count_at(body, end + 4 + 4 * ids);
     if most_addresses < addresses {
         return Problem::ManyAddresses;
     }
-    let program = 29 + 4 * ids + 8 * addresses;
+    let program = end + 12 + 4 * ids + 8 * addresses;
     if body.len() < program {
         return Problem::Unfilled;
     }
-    let length = numbers::count_at(body, 25 + 4 * ids + 8 * addresses);
+    let length = numbers::count_at(body, end + 8 + 4 * ids + 8 * addresses);
     if limits::PROGRAM < length {
         return Problem::LongProgram;
     }
@@ -100,41 +117,63 @@ fn read_addresses(body: &[u8], at: usize, addresses: &mut [u64])
     }
 }
 
+// The length of a further table: the one at a place, or `unsaid` where bit 7 is not set.
+fn further_length(body: &[u8], at: usize, unsaid: usize) -> usize
+    requires { ⌜ (at ≤ 21) × (Cases·lengthsEnd (now body) ≤ length (now body)) ⌝ }
+    ensures { λ r. ⌜ r ≡ further body at unsaid ⌝ }
+{
+    if body[0] / 128 == 1 {
+        return numbers::count_at(body, at);
+    }
+    unsaid
+}
+
 fn parts_of(body: &[u8]) -> Case
-    requires { ⌜ (21 ≤ length (now body)) × (addressesAt (now body) ≤ length (now body)) ⌝ }
+    requires { ⌜ programAt (now body) ≤ length (now body) ⌝ }
     ensures { λ r. ⌜ r ≡ partsOf body ⌝ }
 {
-    let ids = numbers::count_at(body, 17);
-    let addresses = numbers::count_at(body, 21 + 4 * ids);
+    let end = lengths_end(body);
+    let ids = numbers::count_at(body, end);
+    let addresses = numbers::count_at(body, end + 4 + 4 * ids);
+    let program = end + 12 + 4 * ids + 8 * addresses;
+    let unsaid = (body.len() - program) / 8 + 1;
     Case {
         problem: Problem::Nothing,
         use_mbuff: body[0] % 2 == 1,
-        update_data_ptr: body[0] / 2 == 1,
+        update_data_ptr: body[0] / 2 % 2 == 1,
+        named: body[0] / 128 == 1,
         code: numbers::count_at(body, 1),
         locations: numbers::count_at(body, 5),
         fields: numbers::count_at(body, 9),
         targets: numbers::count_at(body, 13),
+        kinds: further_length(body, 17, unsaid),
+        makers: further_length(body, 21, unsaid),
         ids,
         addresses,
-        program: 29 + 4 * ids + 8 * addresses,
+        program,
     }
 }
 
 // The case in a body, its helpers put at the start of `ids` and `addresses`, whose lengths are how many there may be.
 pub fn take_apart(body: &[u8], ids: &mut [u32], addresses: &mut [u64]) -> Case
     ensures { λ r. ⌜ r ≡ caseOf body ids addresses ⌝ }
-    ensures { λ r. ⌜ Filled ids (idAt body 21) (r .ids) ⌝ }
-    ensures { λ r. ⌜ Filled addresses (addressAt body (25 + 4 * r .ids)) (r .addresses) ⌝ }
+    ensures { λ r. ⌜ Filled ids (idAt body (lengthsEnd body + 4)) (r .ids) ⌝ }
+    ensures { λ r. ⌜ Filled addresses (addressAt body (lengthsEnd body + 8 + 4 * r .ids)) (r .addresses) ⌝ }
     ensures { λ r. ⌜ Inside (body .entry) (ids .exit) (addresses .exit) r ⌝ }
 {
     let wrong = wrong_with(body, ids.len(), addresses.len());
     if !cases_problems::is_nothing(wrong) {
         return no_case(wrong);
     }
+    let end = lengths_end(body);
     let case = parts_of(body);
     let id_count = case.ids;
     let address_count = case.addresses;
-    read_ids(body, 21, &mut ids[..id_count]);
-    read_addresses(body, 25 + 4 * id_count, &mut addresses[..address_count]);
+    read_ids(body, end + 4, &mut ids[..id_count]);
+    read_addresses(
+        body,
+        end + 8 + 4 * id_count,
+        &mut addresses[..address_count],
+    );
     case
 }

@@ -5,7 +5,7 @@ ghost use lib.Dec.{eqb};
 ghost use lib.ListN.{length};
 ghost use Rattle.text.specs.Lent.{Says};
 ghost use Rattle.cases_problems.specs.Problems.{problemNumber, whyOf};
-ghost use Rattle.cases_problems.specs.Lent.{reportOf};
+ghost use Rattle.cases_problems.specs.Lent.{changedOf, reportOf};
 use libc::STDERR_FILENO;
 use text::number::put_decimal;
 use text::text::put_byte;
@@ -31,6 +31,8 @@ pub enum Problem {
     LocationsChanged,
     FieldsChanged,
     TargetsChanged,
+    KindsChanged,
+    MakersChanged,
     // The answer is longer than the room for it.
     NoRoom,
 }
@@ -54,7 +56,9 @@ pub fn number_of(problem: Problem) -> u8
         Problem::LocationsChanged => 12,
         Problem::FieldsChanged => 13,
         Problem::TargetsChanged => 14,
-        Problem::NoRoom => 15,
+        Problem::KindsChanged => 15,
+        Problem::MakersChanged => 16,
+        Problem::NoRoom => 17,
     }
 }
 
@@ -68,6 +72,14 @@ pub fn is_end(problem: Problem) -> bool
     ensures { λ r. ⌜ r ≡ eqb (problemNumber problem) 1 ⌝ }
 {
     number_of(problem) == 1
+}
+
+fn put_changed(out: &mut [u8], at: usize, what: &[u8]) -> usize
+    ensures { λ r. ⌜ Says out at r (changedOf what) ⌝ }
+{
+    let told = put_text(out, at, b": the translator changed the ");
+    let named = put_text(out, told, what);
+    put_text(out, named, b" where it may not")
 }
 
 fn put_why(out: &mut [u8], at: usize, problem: Problem) -> usize
@@ -86,7 +98,7 @@ fn put_why(out: &mut [u8], at: usize, problem: Problem) -> usize
         Problem::OtherFlags => put_text(
             out,
             at,
-            b" is malformed: it has a flag other than bits 0 and 1",
+            b" is malformed: it has a flag other than bits 0, 1 and 7",
         ),
         Problem::ManyIds => put_text(out, at, b" is malformed: it has more than 512 helper ids"),
         Problem::ManyAddresses => put_text(
@@ -105,26 +117,12 @@ fn put_why(out: &mut [u8], at: usize, problem: Problem) -> usize
             at,
             b": the translator answers lengths beyond what it was lent",
         ),
-        Problem::PageChanged => put_text(
-            out,
-            at,
-            b": the translator changed the page where it may not",
-        ),
-        Problem::LocationsChanged => put_text(
-            out,
-            at,
-            b": the translator changed the location table where it may not",
-        ),
-        Problem::FieldsChanged => put_text(
-            out,
-            at,
-            b": the translator changed the jump field table where it may not",
-        ),
-        Problem::TargetsChanged => put_text(
-            out,
-            at,
-            b": the translator changed the jump target table where it may not",
-        ),
+        Problem::PageChanged => put_changed(out, at, b"page"),
+        Problem::LocationsChanged => put_changed(out, at, b"location table"),
+        Problem::FieldsChanged => put_changed(out, at, b"jump field table"),
+        Problem::TargetsChanged => put_changed(out, at, b"jump target table"),
+        Problem::KindsChanged => put_changed(out, at, b"jump kind table"),
+        Problem::MakersChanged => put_changed(out, at, b"jump maker table"),
         Problem::NoRoom => put_text(out, at, b": there is no room for its answer"),
     }
 }

@@ -11,7 +11,7 @@ fn mark(i: usize) -> u8
     (i % 251 + 5) as u8
 }
 
-// Above every location, field and target of an accepted case.
+// Above every entry of an accepted case.
 fn table_mark(i: usize) -> u32
     ensures { λ r. ⌜ r ≡ tableMarkAt i ⌝ }
 {
@@ -39,14 +39,24 @@ pub fn mark_table(table: &mut [u32])
 }
 
 // All that is lent, before the first case.
-pub fn mark_lent(page: &mut [u8], locations: &mut [u32], fields: &mut [u32], targets: &mut [u32])
+pub fn mark_lent(
+    page: &mut [u8],
+    locations: &mut [u32],
+    fields: &mut [u32],
+    targets: &mut [u32],
+    kinds: &mut [u32],
+    makers: &mut [u32],
+)
     ensures { λ _. ⌜ (Marked markAt 0 (now (page .exit))) × (Marked tableMarkAt 0 (now (locations .exit))) ⌝ }
     ensures { λ _. ⌜ (Marked tableMarkAt 0 (now (fields .exit))) × (Marked tableMarkAt 0 (now (targets .exit))) ⌝ }
+    ensures { λ _. ⌜ (Marked tableMarkAt 0 (now (kinds .exit))) × (Marked tableMarkAt 0 (now (makers .exit))) ⌝ }
 {
     mark_page(page);
     mark_table(locations);
     mark_table(fields);
     mark_table(targets);
+    mark_table(kinds);
+    mark_table(makers);
 }
 
 // Whether everything from a place on is marked.

@@ -1,5 +1,6 @@
 // A case, run: what it asks for is lent, the answer is put together, and what was lent is looked over and marked again.
 ghost use mathlib.Core.Path.{_≡_};
+ghost use mathlib.Core.Bool.{true};
 ghost use Prim.Native.Nat.{_≤_};
 ghost use lib.ListN.{length};
 ghost use Rattle.cases_bytes.specs.Lent.{Inside};
@@ -54,6 +55,8 @@ fn changed(
     ends: usize,
     fields: &[u32],
     targets: &[u32],
+    kinds: &[u32],
+    makers: &[u32],
     jumps: usize,
 ) -> Problem {
     if !marks::page_kept(code, end) {
@@ -68,6 +71,12 @@ fn changed(
     if !marks::table_kept(targets, jumps) {
         return Problem::TargetsChanged;
     }
+    if !marks::table_kept(kinds, jumps) {
+        return Problem::KindsChanged;
+    }
+    if !marks::table_kept(makers, jumps) {
+        return Problem::MakersChanged;
+    }
     Problem::Nothing
 }
 
@@ -77,15 +86,57 @@ fn refused(
     locations: &[u32],
     fields: &[u32],
     targets: &[u32],
+    kinds: &[u32],
+    makers: &[u32],
     out: &mut [u8],
 ) -> Reply
     ensures { λ r. ⌜ r .size ≤ length (now (out .exit)) ⌝ }
 {
-    let wrong = changed(code, 0, locations, 0, fields, targets, 0);
+    let wrong = changed(code, 0, locations, 0, fields, targets, kinds, makers, 0);
     if !cases_problems::is_nothing(wrong) {
         return no_reply(wrong);
     }
     reply_of(answer::put_refused(out, refusal))
+}
+
+// Whether an answer is within what was lent: `end` bytes, `ends` locations and `jumps` jumps.
+fn is_within(
+    code: usize,
+    end: usize,
+    locations: usize,
+    ends: usize,
+    fields: usize,
+    targets: usize,
+    kinds: usize,
+    makers: usize,
+    jumps: usize,
+) -> bool
+    ensures { λ r. ⌜ (r ≡ true → (end ≤ code) × ((ends ≤ locations)
+        × ((jumps ≤ fields) × ((jumps ≤ targets) × ((jumps ≤ kinds) × (jumps ≤ makers)))))) ⌝ }
+{
+    if code < end {
+        return false;
+    }
+    if locations < ends {
+        return false;
+    }
+    if fields < jumps {
+        return false;
+    }
+    if targets < jumps {
+        return false;
+    }
+    if kinds < jumps {
+        return false;
+    }
+    jumps <= makers
+}
+
+// How many kinds and makers an answer shows: those of all jumps, or none.
+fn shown_of(named: bool, jumps: usize) -> usize
+    ensures { λ r. ⌜ r ≤ jumps ⌝ }
+{
+    if named { jumps } else { 0 }
 }
 
 fn accepted(
@@ -95,51 +146,76 @@ fn accepted(
     ends: usize,
     fields: &mut [u32],
     targets: &mut [u32],
+    kinds: &mut [u32],
+    makers: &mut [u32],
     jumps: usize,
+    named: bool,
     out: &mut [u8],
 ) -> Reply
     ensures { λ r. ⌜ r .size ≤ length (now (out .exit)) ⌝ }
 {
-    if code.len() < end {
+    if !is_within(
+        code.len(),
+        end,
+        locations.len(),
+        ends,
+        fields.len(),
+        targets.len(),
+        kinds.len(),
+        makers.len(),
+        jumps,
+    ) {
         return no_reply(Problem::WrongLengths);
     }
-    if locations.len() < ends {
-        return no_reply(Problem::WrongLengths);
-    }
-    if fields.len() < jumps {
-        return no_reply(Problem::WrongLengths);
-    }
-    if targets.len() < jumps {
-        return no_reply(Problem::WrongLengths);
-    }
-    let wrong = changed(code, end, locations, ends, fields, targets, jumps);
+    let wrong = changed(
+        code,
+        end,
+        locations,
+        ends,
+        fields,
+        targets,
+        kinds,
+        makers,
+        jumps,
+    );
     if !cases_problems::is_nothing(wrong) {
         return no_reply(wrong);
     }
+    let shown = shown_of(named, jumps);
     let size = answer::put_accepted(
         out,
         &code[..end],
         &locations[..ends],
         &fields[..jumps],
         &targets[..jumps],
+        &kinds[..shown],
+        &makers[..shown],
     );
-    marks::mark_page(&mut code[..end]);
-    marks::mark_table(&mut locations[..ends]);
-    marks::mark_table(&mut fields[..jumps]);
-    marks::mark_table(&mut targets[..jumps]);
+    marks::mark_lent(
+        &mut code[..end],
+        &mut locations[..ends],
+        &mut fields[..jumps],
+        &mut targets[..jumps],
+        &mut kinds[..jumps],
+        &mut makers[..jumps],
+    );
     reply_of(size)
 }
 
-// What is lent here is lent whole. It is marked before, and marked again afterwards where there is no problem.
+// What is lent here is lent whole. It is marked before, and marked again afterwards where there is no problem. `named` asks for the kinds
+// and makers.
 fn run_lent(
     program: &[u8],
     flags: Flags,
+    named: bool,
     ids: &[u32],
     addresses: &[u64],
     code: &mut [u8],
     locations: &mut [u32],
     fields: &mut [u32],
     targets: &mut [u32],
+    kinds: &mut [u32],
+    makers: &mut [u32],
     out: &mut [u8],
 ) -> Reply
     ensures { λ r. ⌜ r .size ≤ length (now (out .exit)) ⌝ }
@@ -153,8 +229,19 @@ fn run_lent(
         locations,
         fields,
         targets,
+        kinds,
+        makers,
     ) {
-        Answer::Refused(refusal) => refused(refusal, code, locations, fields, targets, out),
+        Answer::Refused(refusal) => refused(
+            refusal,
+            code,
+            locations,
+            fields,
+            targets,
+            kinds,
+            makers,
+            out,
+        ),
         Answer::Accepted { length, jumps } => accepted(
             code,
             length,
@@ -162,7 +249,10 @@ fn run_lent(
             program.len() / 8 + 1,
             fields,
             targets,
+            kinds,
+            makers,
             jumps,
+            named,
             out,
         ),
     }
@@ -178,6 +268,8 @@ fn run_case(
     locations: &mut [u32],
     fields: &mut [u32],
     targets: &mut [u32],
+    kinds: &mut [u32],
+    makers: &mut [u32],
     out: &mut [u8],
 ) -> Reply
     requires { ⌜ Inside body ids addresses case ⌝ }
@@ -194,15 +286,20 @@ fn run_case(
     let l = least(case.locations, locations.len());
     let f = least(case.fields, fields.len());
     let t = least(case.targets, targets.len());
+    let k = least(case.kinds, kinds.len());
+    let m = least(case.makers, makers.len());
     run_lent(
         &body[program..],
         flags,
+        case.named,
         &ids[..i],
         &addresses[..a],
         &mut code[..c],
         &mut locations[..l],
         &mut fields[..f],
         &mut targets[..t],
+        &mut kinds[..k],
+        &mut makers[..m],
         out,
     )
 }
@@ -210,17 +307,19 @@ fn run_case(
 // The case in a record's body, taken apart and run.
 fn run_body(
     body: &[u8],
-    ids: &mut [u32],
-    addresses: &mut [u64],
     code: &mut [u8],
     locations: &mut [u32],
     fields: &mut [u32],
     targets: &mut [u32],
+    kinds: &mut [u32],
+    makers: &mut [u32],
     out: &mut [u8],
 ) -> Reply
     ensures { λ r. ⌜ r .size ≤ length (now (out .exit)) ⌝ }
 {
-    let case = parts::take_apart(body, ids, addresses);
+    let mut ids = [0u32; limits::HELPERS];
+    let mut addresses = [0u64; limits::HELPERS];
+    let case = parts::take_apart(body, &mut ids, &mut addresses);
     let malformed = case.problem;
     if !cases_problems::is_nothing(malformed) {
         return no_reply(malformed);
@@ -228,12 +327,14 @@ fn run_body(
     run_case(
         body,
         case,
-        ids,
-        addresses,
+        &ids,
+        &addresses,
         code,
         locations,
         fields,
         targets,
+        kinds,
+        makers,
         out,
     )
 }
@@ -263,12 +364,12 @@ pub fn run_next(
     input: &mut [u8],
     start: usize,
     end: usize,
-    ids: &mut [u32],
-    addresses: &mut [u64],
     code: &mut [u8],
     locations: &mut [u32],
     fields: &mut [u32],
     targets: &mut [u32],
+    kinds: &mut [u32],
+    makers: &mut [u32],
     out: &mut [u8],
 ) -> Done
     requires { ⌜ (start ≤ end) × (end ≤ length (now input)) ⌝ }
@@ -292,12 +393,12 @@ pub fn run_next(
     let behind = at + record.length;
     let reply = run_body(
         &input[at..behind],
-        ids,
-        addresses,
         code,
         locations,
         fields,
         targets,
+        kinds,
+        makers,
         out,
     );
     let wrong = reply.problem;

@@ -16,12 +16,14 @@ use Rattle.base.proofs.Tests.{T-true, true-T, or-elim, eqb-true, leb-true}
 use Rattle.code.specs.Instr.{Instr, op, jump, callReg, ret, Dest, near, to, Isa}
 use Rattle.code.specs.Code.{field, target, place, targetsOf, len, span, size, lower, lowered, bytes, codeOf, fieldsOf}
 use Rattle.code.specs.Page.{anchor, Code, Page, whole, goodTarget, locations, exitOf, locOf, pageCode, instructions, fieldTable, targetTable}
-use Rattle.code.specs.Landing.{follow, Stands, Meant, slot, exit, first, Lands, Jumps, listed, own, Landing}
+use Rattle.code.specs.Jumps.{kind, kindsOf, kindTable, makerTable}
+use Rattle.code.specs.Landing.{follow, Stands, Meant, slot, exit, first, Within, Lands, Jumps, listed, own, Landing}
 use Rattle.code.proofs.Lawful.{Lawful}
 use Rattle.code.proofs.CodeLaws.{len-map, size-append, fields-append, length-fields, lowered-append}
 use Rattle.code.proofs.ReadsLaws.{drop-code}
 use Rattle.code.proofs.PageLaws.{Goods, goods-at, Found, start, found, loc-most}
 use Rattle.code.proofs.PageLaws as page
+use Rattle.code.proofs.JumpsLaws.{length-kinds, Beside, beside-length, beside-at, makers-within}
 
 -- A field holds its target's place minus the instruction's end, and so the processor follows it there.
 abbrev pub measured : (end place : ℕ) → ℕ
@@ -67,11 +69,13 @@ module _ {P J : Type 0} (m : Isa P J) where
     pub split : is ≡ pre ++ jump kind (to aim) ∷ post
     pub ends : getD (fieldsOf m p is) k 0 + 4 ≡ p + size m pre + len m {D = Dest} (jump kind (to aim))
     pub aims : getD (targetsOf is) k 0 ≡ aim
+    pub named : getD (kindsOf m is) k 0 ≡ m .kind kind
 
   entry-on : (p : ℕ) (i : Instr P J Dest) (is : Code P J) (k n : ℕ)
       → getD (place (p + len m i) i ++ fieldsOf m (p + len m i) is) n 0 ≡ getD (fieldsOf m (p + len m i) is) k 0
-      → getD (target i ++ targetsOf is) n 0 ≡ getD (targetsOf is) k 0 → Entry (p + len m i) is k → Entry p (i ∷ is) n
-  entry-on p i is k n e t v =
+      → getD (target i ++ targetsOf is) n 0 ≡ getD (targetsOf is) k 0 → getD (kind m i ++ kindsOf m is) n 0 ≡ getD (kindsOf m is) k 0
+      → Entry (p + len m i) is k → Entry p (i ∷ is) n
+  entry-on p i is k n e t s v =
       record {
         pre = i ∷ v .pre;
         kind = v .kind;
@@ -80,17 +84,18 @@ module _ {P J : Type 0} (m : Isa P J) where
         split = ap (λ (l : Code P J). i ∷ l) (v .split);
         ends = rw e (v .ends ∙ omega arith);
         aims = t ∙ v .aims;
+        named = s ∙ v .named;
       }
 
   pub entry-at : (p : ℕ) (is : Code P J) (k : ℕ) → k < length (fieldsOf m p is) → Entry p is k
   entry-at p [] k h = absurd (omega (arith, h))
-  entry-at p (op q ∷ is) k h = entry-on p (op q) is k k refl refl (entry-at (p + len m {D = Dest} (op q)) is k h)
-  entry-at p (jump j (near x) ∷ is) k h = entry-on p (jump j (near x)) is k k refl refl (entry-at (p + len m {D = Dest} (jump j (near x))) is k h)
-  entry-at p (jump j (to t) ∷ is) zero h = record { pre = []; kind = j; aim = t; post = is; split = refl; ends = omega arith; aims = refl }
+  entry-at p (op q ∷ is) k h = entry-on p (op q) is k k refl refl refl (entry-at (p + len m {D = Dest} (op q)) is k h)
+  entry-at p (jump j (near x) ∷ is) k h = entry-on p (jump j (near x)) is k k refl refl refl (entry-at (p + len m {D = Dest} (jump j (near x))) is k h)
+  entry-at p (jump j (to t) ∷ is) zero h = record { pre = []; kind = j; aim = t; post = is; split = refl; ends = omega arith; aims = refl; named = refl }
   entry-at p (jump j (to t) ∷ is) (suc k) h =
-      entry-on p (jump j (to t)) is k (suc k) refl refl (entry-at (p + len m {D = Dest} (jump j (to t))) is k (omega (arith, h)))
-  entry-at p (callReg r ∷ is) k h = entry-on p (callReg r) is k k refl refl (entry-at (p + len m {D = Dest} (callReg r)) is k h)
-  entry-at p (ret ∷ is) k h = entry-on p ret is k k refl refl (entry-at (p + len m {D = Dest} ret) is k h)
+      entry-on p (jump j (to t)) is k (suc k) refl refl refl (entry-at (p + len m {D = Dest} (jump j (to t))) is k (omega (arith, h)))
+  entry-at p (callReg r ∷ is) k h = entry-on p (callReg r) is k k refl refl refl (entry-at (p + len m {D = Dest} (callReg r)) is k h)
+  entry-at p (ret ∷ is) k h = entry-on p ret is k k refl refl refl (entry-at (p + len m {D = Dest} ret) is k h)
 
   -- and each listed jump has an entry
   pub entry-of : (p : ℕ) (pre : Code P J) (j : J) (t : ℕ) (post : Code P J) → let is = pre ++ jump j (to t) ∷ post in
@@ -165,9 +170,9 @@ module _ {P J : Type 0} {m : Isa P J} (lawful : Lawful m) where
       ∙ rw (zero-add (size m pre)) (append-assoc (m .head j) (le32 v) more) in
       rw (z, f0, ← drop-drop (length (m .head j)) (size m pre) (codeOf m loc is), c, drop-at (m .head j) (le32 v ++ more) (length (m .head j)) refl) refl
 
-  -- All of it, for a page below 2 GiB whose targets are good, and whose exit is where its epilogue begins.
+  -- All of it, for a page below 2 GiB whose targets are good, and whose exit is where its epilogue begins, which lists no jump.
   module _ (g : Page P J) (n : ℕ) (short : size m (whole g) < 2 ^ 31) (few : length (locations m g) ≡ n + 1)
-      (good : Goods n (targetTable m g)) (Exit : ℕ → Type 0) (leaves : Exit (exitOf m g)) where
+      (good : Goods n (targetTable m g)) (unlisted : targetsOf (g .epilogue) ≡ []) (Exit : ℕ → Type 0) (leaves : Exit (exitOf m g)) where
     abbrev loc : ℕ → ℕ
     loc = locOf m g
 
@@ -197,8 +202,12 @@ module _ {P J : Type 0} {m : Isa P J} (lawful : Lawful m) where
     end-lt : (pre : Code P J) (i : Instr P J Dest) (post : Code P J) → whole g ≡ pre ++ i ∷ post → size m pre + len m i < 2 ^ 31
     end-lt pre i post e = omega (arith, ap (size m) e ∙ size-append m pre (i ∷ post))
 
+    made : Beside (Within m g) (makerTable g) (fieldTable m g)
+    made = makers-within m g unlisted
+
     pub lands-at : (k : ℕ) → k < length (fieldTable m g)
-        → Lands m g Exit (pageCode m g) (instructions m g) locs (getD (fieldTable m g) k 0) (getD (targetTable m g) k 0)
+        → Lands m g Exit (pageCode m g) (instructions m g) locs
+        (getD (fieldTable m g) k 0) (getD (targetTable m g) k 0) (getD (kindTable m g) k 0) (getD (makerTable g) k 0)
     lands-at k h =
         let v = entry-at m 0 (whole g) k h in
         let i : Instr P J Dest = jump (v .kind) (to (v .aim)) in
@@ -215,6 +224,8 @@ module _ {P J : Type 0} {m : Isa P J} (lawful : Lawful m) where
           bytes = rw z at (word-bytes loc (whole g) (v .pre) (v .kind) (to (v .aim)) (v .post) _ (v .split) z);
           meant = rw (z, follow-to (size m (v .pre) + len m i) (loc (v .aim)) y (omega (arith, loc-most m g (v .aim))), v .aims)
               (meant (v .aim) (rw (v .aims) at (goods-at n (targetTable m g) k good (rw (← length-fields m 0 (whole g)) h))));
+          named = sym (v .named);
+          maker = beside-at (Within m g) (makerTable g) (fieldTable m g) k made h;
         }
 
     jumps-at : (p v : ℕ) (j : J) → Stands m (instructions m g) p (jump j v) → Jumps m g (fieldTable m g) j v p
@@ -232,5 +243,11 @@ module _ {P J : Type 0} {m : Isa P J} (lawful : Lawful m) where
                 let n = entry-of m 0 (r .pre) j t (r .post) in
                 listed (length (fieldsOf m 0 (r .pre))) (rw w (n .0)) (rw w (n .1 ∙ omega (arith, r .far, s .place)))
 
-    pub landing : Landing m g Exit (pageCode m g) (instructions m g) locs (fieldTable m g) (targetTable m g)
-    landing = record { pairs = sym (length-fields m 0 (whole g)); listed = lands-at; others = jumps-at }
+    pub pairs : (length (targetTable m g) ≡ length (fieldTable m g))
+        × ((length (kindTable m g) ≡ length (fieldTable m g)) × (length (makerTable g) ≡ length (fieldTable m g)))
+    pairs =
+        let fields = sym (length-fields m 0 (whole g)) in
+        (fields, (length-kinds m (whole g) ∙ fields, beside-length (Within m g) (makerTable g) (fieldTable m g) made))
+
+    pub landing : Landing m g Exit (pageCode m g) (instructions m g) locs (fieldTable m g) (targetTable m g) (kindTable m g) (makerTable g)
+    landing = record { pairs = pairs; listed = lands-at; others = jumps-at }

@@ -4,4 +4,5 @@ pub mod FillLaws
 pub mod Placed
 pub mod ReadsLaws
 pub mod PageLaws
+pub mod JumpsLaws
 pub mod LandingLaws

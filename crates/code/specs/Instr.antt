@@ -18,10 +18,11 @@ pub data Dest : Type 0 where
 -- The bytes of each. A jump is its `head` and then a word of four bytes, lowest byte first, in which its distance lies: from the
 -- instruction's end, modulo 2 ^ 32. Where the word is the distance, `word` and `patch` give it back; where the word is the whole
 -- instruction, the distance is in some of its bits, and `patch` puts it into a word that was written with distance 0. `throughLen` is the
--- length of `through`.
+-- length of `through`. `kind` is what the record of a listed jump says of it (Jumps.antt).
 pub record Isa (P J : Type 0) : Type 0 where
   pub plain : P → List ℕ
   pub head : J → List ℕ
+  pub kind : J → ℕ
   pub word : J → (distance : ℕ) → ℕ
   pub patch : (old distance : ℕ) → ℕ
   pub through : (r : ℕ) → List ℕ

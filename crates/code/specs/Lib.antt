@@ -1,8 +1,9 @@
 -- Instructions and what a processor says of them (Instr), code of them (Code), the fields filled (Fill), the bytes read again (Reads), a page
--- with its tables (Page), and where its jumps land (Landing).
+-- with its tables (Page), what two further ones say of its jumps (Jumps), and where these land (Landing).
 pub mod Instr
 pub mod Code
 pub mod Fill
 pub mod Reads
 pub mod Page
+pub mod Jumps
 pub mod Landing

@@ -34,7 +34,7 @@ use Rattle.jit.specs.Translation.{Filter, slotsIn, Inputs, slotsOf, Bloc
 use Rattle.jit.specs.Translation.{taken, known, goodRegisters, stepRead, stepAt, Walk, refused, done, joined, slotsWide, within, after, rest, flat}
 use Rattle.jit.specs.Translation.{firstBad, Outcome, no, yes, whole, locations, placeOf, accepted, unlessBad, finish, walkOf, badHelpers, sizesOf}
 use Rattle.jit.specs.Passes.{exitOf}
-use Rattle.jit.specs.Translation.{translationOf}
+use Rattle.jit.specs.Translation.{shortTable, translationOf}
 
 -- A block that a slot gave: its bytes are all there, it is short, and it lists one jump at most.
 pub record Sound (program : List ℕ) (slot : ℕ) (b : Block) : Type 0 where
@@ -248,7 +248,7 @@ pub bounds : (x : Inputs) → Bound x (translationOf x)
 unfolding translationOf sizesOf
 bounds x =
     by (ltb (x .page) shortestPage) (ltb longestPage (x .page)) (ltb longestProgram (length (x .filter .program))) refl
-    (leb (x .locations) n || (leb (x .fields) n || leb (x .targets) n)) (badHelpers (x .filter .ids) (x .filter .addresses))
+    (shortTable n (x .locations) (x .fields) (x .targets) (x .kinds) (x .makers)) (badHelpers (x .filter .ids) (x .filter .addresses))
   where
     n : ℕ
     n = slotsOf (x .filter .program)

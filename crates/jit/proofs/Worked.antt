@@ -12,6 +12,7 @@ use Rattle.x86.specs.Fill.{blanks}
 use Rattle.jit.specs.Slots.{regOf, targetOf, loadImm}
 use Rattle.jit.specs.Frame.{saves, packetStart, packetEnd, argument, enter, prologue, epilogue}
 use Rattle.jit.specs.Translation.{Inputs, Walk, refused, done, flat, walkOf, rest, stepAt, helperOf, goodTarget, Outcome, no, yes, sizesOf, translationOf}
+use Rattle.jit.specs.JumpTables.{kindsIn, makersIn}
 
 -- what a line of the document speaks of
 pub data Part : Type 0 where
@@ -25,6 +26,9 @@ pub data Part : Type 0 where
   lengths : Part
   -- the four bytes of a jump field, the prologue's being number 0
   field : (number : ℕ) → Part
+  -- the kind of each jump, and the slot that made it
+  kinds : Part
+  makers : Part
 
 pub record Line : Type 0 where
   pub program : List ℕ
@@ -40,19 +44,23 @@ inputs program =
       locations = 2049;
       fields = 2049;
       targets = 2049;
+      kinds = 2049;
+      makers = 2049;
     }
 
-abbrev partOf : Part → Outcome → Walk → List ℕ
-partOf p (no r) w = []
-partOf code (yes c l f t) w = c
-partOf slots (yes c l f t) w = take (length c - 50) (drop 34 c)
-partOf unfilled (yes c l f t) (refused r) = []
-partOf unfilled (yes c l f t) (done bs) = blanks (flat bs)
-partOf lengths (yes c l f t) w = length c ∷ length f ∷ []
-partOf (field k) (yes c l f t) w = take 4 (drop (getD f k 0) c)
+abbrev partOf : Inputs → Part → Outcome → Walk → List ℕ
+partOf x p (no r) w = []
+partOf x code (yes c l f t) w = c
+partOf x slots (yes c l f t) w = take (length c - 50) (drop 34 c)
+partOf x unfilled (yes c l f t) (refused r) = []
+partOf x unfilled (yes c l f t) (done bs) = blanks (flat bs)
+partOf x lengths (yes c l f t) w = length c ∷ length f ∷ []
+partOf x (field k) (yes c l f t) w = take 4 (drop (getD f k 0) c)
+partOf x kinds (yes c l f t) w = kindsIn x (yes c l f t)
+partOf x makers (yes c l f t) w = makersIn x (yes c l f t)
 
 abbrev given : Line → List ℕ
-given x = partOf (x .part) (translationOf (inputs (x .program))) (walkOf (inputs (x .program)))
+given x = partOf (inputs (x .program)) (x .part) (translationOf (inputs (x .program))) (walkOf (inputs (x .program)))
 
 -- a slot: opcode; registers, src · 16 + dst; offset and immediate, lowest byte first
 abbrev slot : (o r a b c d e f : ℕ) → List ℕ
@@ -60,6 +68,12 @@ slot o r a b c d e f = o ∷ r ∷ a ∷ b ∷ c ∷ d ∷ e ∷ f ∷ []
 
 abbrev line : List ℕ → Part → List ℕ → Line
 line program part bytes = record { program = program; part = part; bytes = bytes }
+
+-- a wide load, slots 0 and 1; JEQ, JA, DIV and MOD by a register, a local call, EXIT
+abbrev jumping : List ℕ
+jumping =
+    slot 0x18 0x00 0 0 0 0 0 0 ++ (slot 0 0 0 0 0 0 0 0 ++ (slot 0x15 0x00 0 0 0 0 0 0 ++ (slot 0x05 0x00 0 0 0 0 0 0
+    ++ (slot 0x3f 0x10 0 0 0 0 0 0 ++ (slot 0x9f 0x10 0 0 0 0 0 0 ++ (slot 0x85 0x10 0 0 0 0 0 0 ++ slot 0x95 0x00 0 0 0 0 0 0))))))
 
 pub table : List Line
 table =
@@ -92,7 +106,13 @@ table =
     line (slot 0x05 0x00 0xff 0xff 0 0 0 0) (field 1) (0xfb ∷ 0xff ∷ 0xff ∷ 0xff ∷ []) ∷
     line (slot 0x05 0x00 0x00 0x00 0 0 0 0) (field 1) (0xd9 ∷ 0xff ∷ 0xff ∷ 0xff ∷ []) ∷
     -- a local call with imm 1000000: the anchor
-    line (slot 0x85 0x10 0 0 0x40 0x42 0x0f 0x00) (field 1) (0x07 ∷ 0x00 ∷ 0x00 ∷ 0x00 ∷ []) ∷ []
+    line (slot 0x85 0x10 0 0 0x40 0x42 0x0f 0x00) (field 1) (0x07 ∷ 0x00 ∷ 0x00 ∷ 0x00 ∷ []) ∷
+    -- the jumps of seven slots' code, and the prologue's, which n = 8 made: plain, conditional, plain, plain (DIV), conditional (MOD), a call
+    line jumping kinds (2 ∷ 1 ∷ 2 ∷ 2 ∷ 1 ∷ 3 ∷ []) ∷
+    line jumping makers (8 ∷ 2 ∷ 3 ∷ 4 ∷ 5 ∷ 6 ∷ []) ∷
+    -- the empty program has the prologue's alone
+    line [] kinds (2 ∷ []) ∷
+    line [] makers (0 ∷ []) ∷ []
 
 pub worked : map given table ≡ map (λ (x : Line). x .bytes) table
 unfolding table translationOf sizesOf rest stepAt helperOf goodTarget readAt insnAt kindOf regOf targetOf loadImm

@@ -5,5 +5,6 @@ pub mod MulDivMod
 pub mod Slots
 pub mod Frame
 pub mod Translation
+pub mod JumpTables
 pub mod Lent
 pub mod Passes

@@ -1,6 +1,6 @@
--- The whole translation: for every program, pair of flags, helper lists, and lengths of the code buffer and the three tables either the
--- finished code with the tables' first entries, or one refusal. Document 01 gives the order: the sizes, then the slots from 0
--- upward, then the epilogue, then the targets.
+-- The whole translation: for every program, pair of flags, helper lists, and lengths of the code buffer and the five tables either the
+-- finished code with the first entries of three tables, or one refusal; what the other two hold is said by JumpTables.antt. Document 01
+-- gives the order: the sizes, then the slots from 0 upward, then the epilogue, then the targets.
 use mathlib.Core.Bool.{Bool, true, false, _&&_, _||_, not}
 use mathlib.Core.List.{List, [], _∷_, _++_}
 use Prim.Native.Nat.{ℕ, zero, suc, _+_, _*_, _/_, _^_}
@@ -48,6 +48,8 @@ pub record Inputs : Type 0 where
   pub locations : ℕ
   pub fields : ℕ
   pub targets : ℕ
+  pub kinds : ℕ
+  pub makers : ℕ
 
 -- n, the program's length divided by 8, rounded down
 abbrev pub slotsOf : List ℕ → ℕ
@@ -239,13 +241,17 @@ twice (x ∷ xs) = listed x xs || twice xs
 abbrev pub badHelpers : (ids addresses : List ℕ) → Bool
 badHelpers ids addresses = not (eqb (length ids) (length addresses)) || (ltb mostHelpers (length ids) || twice ids)
 
+-- a table has fewer entries than n slots, and one
+abbrev pub shortTable : (n locations fields targets kinds makers : ℕ) → Bool
+shortTable n locations fields targets kinds makers = leb locations n || (leb fields n || (leb targets n || (leb kinds n || leb makers n)))
+
 unfoldable pub sizesOf : Inputs → Outcome → Outcome
 sizesOf x o =
     let n = slotsOf (x .filter .program) in
     pick (ltb (x .page) shortestPage) (no Refusal.PageTooShort)
     (pick (ltb longestPage (x .page)) (no Refusal.PageTooLong)
     (pick (ltb longestProgram (length (x .filter .program))) (no Refusal.ProgramTooLong)
-    (pick (leb (x .locations) n || (leb (x .fields) n || leb (x .targets) n)) (no Refusal.TableTooShort)
+    (pick (shortTable n (x .locations) (x .fields) (x .targets) (x .kinds) (x .makers)) (no Refusal.TableTooShort)
     (pick (badHelpers (x .filter .ids) (x .filter .addresses)) (no Refusal.BadHelpers) o))))
 
 unfoldable pub translationOf : Inputs → Outcome

@@ -15,6 +15,12 @@ pub const LONGEST_PROGRAM: usize = 8 * MOST_SLOTS;
 pub const MOST_HELPERS: usize = 256;
 // The target of a jump to the exit: TARGET_PC_EXIT of rbpf, one more than a program may have slots there.
 pub const ANCHOR: u32 = PROG_MAX_INSNS as u32 + 1;
+// What the table of kinds says of a jump: it is taken on a condition, it is always taken, it is a call within the program.
+pub const CONDITIONAL: u32 = 1;
+
+pub const PLAIN: u32 = 2;
+
+pub const LOCAL_CALL: u32 = 3;
 // The most code that a slot can have: one of most kinds, and one that multiplies, divides or calls.
 pub const SHORT_SLOT: usize = 14;
 

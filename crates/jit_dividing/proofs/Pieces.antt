@@ -18,7 +18,7 @@ use Rattle.x86_emit.specs.Wrote.{Wrote}
 use Rattle.x86_emit.proofs.WroteLaws.{then}
 use Rattle.jit.specs.MulDivMod.{Code, guard, saves, operated, computed, mulDivModReg}
 use Rattle.jit.proofs.SlotSize.{computed-none}
-use Rattle.jit_recording.specs.Emits.{Emits}
+use Rattle.jit_recording.specs.Emits.{Tables, Emits}
 use Rattle.jit_recording.proofs.EmitsLaws.{plainly, emits-then}
 
 module _ (o : MulOp) (slot : ℕ) (w : Width) (src dst : ℕ) where
@@ -42,12 +42,12 @@ module _ (o : MulOp) (slot : ℕ) (w : Width) (src dst : ℕ) where
   )
 
   -- what the pieces emit, one behind another
-  pub pieces : {c c₁ c₂ c₃ c₄ f f′ t t′ : List ℕ} {at j at₁ j′ at₂ at₃ at₄ : ℕ}
-      → Emits c c₁ f f′ t t′ at j at₁ j′ guarded
+  pub pieces : {c c₁ c₂ c₃ c₄ : List ℕ} {t t′ : Tables} {at j at₁ j′ at₂ at₃ at₄ maker : ℕ}
+      → Emits c c₁ t t′ at j at₁ j′ maker guarded
       → Wrote c₁ c₂ at₁ at₂ (blanks (saves dst))
       → Wrote c₂ c₃ at₂ at₃ (encodePlain (alu MOV W64 src RCX))
       → Wrote c₃ c₄ at₃ at₄ (blanks (operated o w dst))
-      → Emits c c₄ f f′ t t′ at j at₄ j′ (mulDivModReg o slot w src dst)
+      → Emits c c₄ t t′ at j at₄ j′ maker (mulDivModReg o slot w src dst)
   pieces g s m r =
       let none = empty (targetsOf unguarded) (computed-none o w (op (alu MOV W64 src RCX) ∷ []) dst (omega arith)) in
       emits-then guarded unguarded g (plainly unguarded none (rw (blanks-append (saves dst) moved) (then s (then m r))))

@@ -179,21 +179,33 @@ fn emit_div_guard(
     code: &mut [u8],
     fields: &mut [u32],
     targets: &mut [u32],
+    kinds: &mut [u32],
+    makers: &mut [u32],
     e: Emission,
     slot: Slot,
     width: Width,
     src: u8,
     dst: u8,
 ) -> Emission
-    requires { ⌜ Room code fields targets e (guard Div (slot .number) width src dst) ⌝ }
+    requires { ⌜ Room code fields targets kinds makers e (guard Div (slot .number) width src dst) ⌝ }
     requires { ⌜ (src < 16) × ((dst < 16) × (slot .number < 2 ^ 16)) ⌝ }
-    ensures { λ r. ⌜ Emits code fields targets e r (guard Div (slot .number) width src dst) ⌝ }
+    ensures { λ r. ⌜ Emits code fields targets kinds makers e r slot (guard Div (slot .number) width src dst) ⌝ }
 {
     let checked = emit_tested(code, e.at, slot, width, src);
     let branched = jump::emit_jcc(code, checked, JNE, skip_of(slot, dst));
     let cleared = alu::emit_alu(code, branched, Width::W32, XOR, dst, dst);
     let next = jump::emit_jmp(code, cleared, 0);
-    emission::record_jump(fields, targets, next, e.jumps, slot.number as u32 + 1)
+    emission::record_jump(
+        fields,
+        targets,
+        kinds,
+        makers,
+        next,
+        e.jumps,
+        slot.number as u32 + 1,
+        jit::PLAIN,
+        slot,
+    )
 }
 
 // MOD: a zero divisor goes to the next slot at once.
@@ -201,19 +213,31 @@ fn emit_mod_guard(
     code: &mut [u8],
     fields: &mut [u32],
     targets: &mut [u32],
+    kinds: &mut [u32],
+    makers: &mut [u32],
     e: Emission,
     slot: Slot,
     width: Width,
     src: u8,
     dst: u8,
 ) -> Emission
-    requires { ⌜ Room code fields targets e (guard Mod (slot .number) width src dst) ⌝ }
+    requires { ⌜ Room code fields targets kinds makers e (guard Mod (slot .number) width src dst) ⌝ }
     requires { ⌜ (src < 16) × (slot .number < 2 ^ 16) ⌝ }
-    ensures { λ r. ⌜ Emits code fields targets e r (guard Mod (slot .number) width src dst) ⌝ }
+    ensures { λ r. ⌜ Emits code fields targets kinds makers e r slot (guard Mod (slot .number) width src dst) ⌝ }
 {
     let checked = emit_tested(code, e.at, slot, width, src);
     let next = jump::emit_jcc(code, checked, JE, 0);
-    emission::record_jump(fields, targets, next, e.jumps, slot.number as u32 + 1)
+    emission::record_jump(
+        fields,
+        targets,
+        kinds,
+        makers,
+        next,
+        e.jumps,
+        slot.number as u32 + 1,
+        jit::CONDITIONAL,
+        slot,
+    )
 }
 
 // The divisor of DIV and MOD is tested; MUL has none.
@@ -221,6 +245,8 @@ fn emit_guard(
     code: &mut [u8],
     fields: &mut [u32],
     targets: &mut [u32],
+    kinds: &mut [u32],
+    makers: &mut [u32],
     e: Emission,
     op: MulOp,
     slot: Slot,
@@ -228,14 +254,36 @@ fn emit_guard(
     src: u8,
     dst: u8,
 ) -> Emission
-    requires { ⌜ Room code fields targets e (guard op (slot .number) width src dst) ⌝ }
+    requires { ⌜ Room code fields targets kinds makers e (guard op (slot .number) width src dst) ⌝ }
     requires { ⌜ (src < 16) × ((dst < 16) × (slot .number < 2 ^ 16)) ⌝ }
-    ensures { λ r. ⌜ Emits code fields targets e r (guard op (slot .number) width src dst) ⌝ }
+    ensures { λ r. ⌜ Emits code fields targets kinds makers e r slot (guard op (slot .number) width src dst) ⌝ }
 {
     match op {
         MulOp::Mul => e,
-        MulOp::Div => emit_div_guard(code, fields, targets, e, slot, width, src, dst),
-        MulOp::Mod => emit_mod_guard(code, fields, targets, e, slot, width, src, dst),
+        MulOp::Div => emit_div_guard(
+            code,
+            fields,
+            targets,
+            kinds,
+            makers,
+            e,
+            slot,
+            width,
+            src,
+            dst,
+        ),
+        MulOp::Mod => emit_mod_guard(
+            code,
+            fields,
+            targets,
+            kinds,
+            makers,
+            e,
+            slot,
+            width,
+            src,
+            dst,
+        ),
     }
 }
 
@@ -243,6 +291,8 @@ pub fn emit_muldivmod_reg(
     code: &mut [u8],
     fields: &mut [u32],
     targets: &mut [u32],
+    kinds: &mut [u32],
+    makers: &mut [u32],
     e: Emission,
     op: MulOp,
     slot: Slot,
@@ -250,11 +300,23 @@ pub fn emit_muldivmod_reg(
     src: u8,
     dst: u8,
 ) -> Emission
-    requires { ⌜ Room code fields targets e (mulDivModReg op (slot .number) width src dst) ⌝ }
+    requires { ⌜ Room code fields targets kinds makers e (mulDivModReg op (slot .number) width src dst) ⌝ }
     requires { ⌜ (src < 16) × ((dst < 16) × (slot .number < 2 ^ 16)) ⌝ }
-    ensures { λ r. ⌜ Emits code fields targets e r (mulDivModReg op (slot .number) width src dst) ⌝ }
+    ensures { λ r. ⌜ Emits code fields targets kinds makers e r slot (mulDivModReg op (slot .number) width src dst) ⌝ }
 {
-    let guarded = emit_guard(code, fields, targets, e, op, slot, width, src, dst);
+    let guarded = emit_guard(
+        code,
+        fields,
+        targets,
+        kinds,
+        makers,
+        e,
+        op,
+        slot,
+        width,
+        src,
+        dst,
+    );
     let saved = emit_saves(code, guarded.at, dst);
     let loaded = alu::emit_alu(code, saved, Width::W64, MOV, src, RCX);
     let done = emit_operated(code, loaded, op, width, dst);
@@ -268,6 +330,8 @@ pub fn emit_muldivmod(
     code: &mut [u8],
     fields: &mut [u32],
     targets: &mut [u32],
+    kinds: &mut [u32],
+    makers: &mut [u32],
     e: Emission,
     op: MulOp,
     width: Width,
@@ -275,9 +339,9 @@ pub fn emit_muldivmod(
     slot: Slot,
     i: Insn,
 ) -> Emission
-    requires { ⌜ Room code fields targets e (mulDivModCode op width source (slot .number) i) ⌝ }
+    requires { ⌜ Room code fields targets kinds makers e (mulDivModCode op width source (slot .number) i) ⌝ }
     requires { ⌜ (i .dst < 11) × ((i .src < 11) × (slot .number < 2 ^ 16)) ⌝ }
-    ensures { λ r. ⌜ Emits code fields targets e r (mulDivModCode op width source (slot .number) i) ⌝ }
+    ensures { λ r. ⌜ Emits code fields targets kinds makers e r slot (mulDivModCode op width source (slot .number) i) ⌝ }
 {
     let dst = register::map_register(i.dst);
     match source {
@@ -286,6 +350,8 @@ pub fn emit_muldivmod(
             code,
             fields,
             targets,
+            kinds,
+            makers,
             e,
             op,
             slot,

@@ -1,2 +1,3 @@
 pub mod SizesLaws
 pub mod Judging
+pub mod Useless

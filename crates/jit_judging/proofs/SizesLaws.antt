@@ -8,12 +8,12 @@ use native.Mathlib.Omega.{arith}
 use lib.Dec.{T, leb, ltb, eqb, ltb→lt}
 use lib.ListN.{length, length-drop, getD, drop, drop-of-length-le}
 use lib.Seq.{drop-cons}
-use borrow.Author.Tests.{lt-ltb, le-ltb, le-leb, lt-leb, eq-eqb, ne-eqb}
+use borrow.Author.Tests.{lt-ltb, le-ltb, eq-eqb, ne-eqb}
 use Rattle.base.specs.Pick.{pick}
-use Rattle.base.proofs.Tests.{true-T, and-l, and-r}
+use Rattle.base.proofs.Tests.{true-T, and-l, and-r, or-false-l, or-false-r, leb-no}
 use Rattle.jit.specs.declared.Refusal.{Refusal}
 use Rattle.jit.specs.Limits.{shortestPage, longestPage, longestProgram, mostHelpers}
-use Rattle.jit.specs.Translation.{Inputs, slotsOf, Outcome, no, listed, twice, badHelpers, sizesOf}
+use Rattle.jit.specs.Translation.{Inputs, slotsOf, Outcome, no, listed, twice, badHelpers, shortTable, sizesOf}
 use Rattle.jit_walk.specs.declared.verdict.Verdict.{Verdict}
 use Rattle.jit_walk.specs.declared.verdict.Verdict.the-variants.{Good, Not}
 use Rattle.jit_judging.specs.Sizes.{rising, sized, Sizes}
@@ -90,74 +90,68 @@ pub record Limited (prog page : ℕ) : Type 0 where
 pub limited : {prog page : ℕ} → shortestPage ≤ page → page ≤ longestPage → prog ≤ longestProgram → Limited prog page
 limited a b c = record { not-short = a; not-long = b; program = c }
 
--- each table has an entry for every slot and one more
-pub record Tables (prog locations fields targets : ℕ) : Type 0 where
-  pub first : prog / 8 < locations
-  pub second : prog / 8 < fields
-  pub third : prog / 8 < targets
+-- where those are passed, what is left is the tables' test, and then the helpers'
+rest : (prog page locations fields targets kinds makers : ℕ) (ids : List ℕ) (addresses : ℕ) → Limited prog page
+    → sized prog page locations fields targets kinds makers ids addresses
+    ≡ pick (shortTable (prog / 8) locations fields targets kinds makers) (Not Refusal.TableTooShort)
+    (pick (not (eqb (length ids) addresses) || (ltb mostHelpers (length ids) || twice ids)) (Not Refusal.BadHelpers) Good)
+rest prog page locations fields targets kinds makers ids addresses l = rw (le-ltb _ _ (l .not-short), le-ltb _ _ (l .not-long), le-ltb _ _ (l .program))
 
-pub tables : {prog locations fields targets : ℕ} → prog / 8 < locations → prog / 8 < fields → prog / 8 < targets
-    → Tables prog locations fields targets
-tables a b c = record { first = a; second = b; third = c }
-
--- where those are passed, what is left is the helpers' test
-helpers : {prog page locations fields targets : ℕ} (ids : List ℕ) (addresses : ℕ) → Limited prog page → Tables prog locations fields targets
-    → sized prog page locations fields targets ids addresses
-    ≡ pick (not (eqb (length ids) addresses) || (ltb mostHelpers (length ids) || twice ids)) (Not Refusal.BadHelpers) Good
-helpers ids addresses l t =
-    rw (le-ltb _ _ (l .not-short), le-ltb _ _ (l .not-long), le-ltb _ _ (l .program))
-    (rw (lt-leb _ _ (t .first), lt-leb _ _ (t .second), lt-leb _ _ (t .third)))
-
-module _ {prog page locations fields targets : ℕ} {ids : List ℕ} {addresses : ℕ} where
-  pub page-short : page < shortestPage → Sizes prog page locations fields targets ids addresses (Not Refusal.PageTooShort)
+module _ {prog page locations fields targets kinds makers : ℕ} {ids : List ℕ} {addresses : ℕ} where
+  pub page-short : page < shortestPage → Sizes prog page locations fields targets kinds makers ids addresses (Not Refusal.PageTooShort)
   page-short h = record { answer = rw (lt-ltb _ _ h); fine = tt }
 
-  pub page-long : shortestPage ≤ page → longestPage < page → Sizes prog page locations fields targets ids addresses (Not Refusal.PageTooLong)
+  pub page-long : shortestPage ≤ page → longestPage < page → Sizes prog page locations fields targets kinds makers ids addresses (Not Refusal.PageTooLong)
   page-long a h = record { answer = rw (le-ltb _ _ a, lt-ltb _ _ h); fine = tt }
 
   pub program-long : shortestPage ≤ page → page ≤ longestPage → longestProgram < prog
-      → Sizes prog page locations fields targets ids addresses (Not Refusal.ProgramTooLong)
+      → Sizes prog page locations fields targets kinds makers ids addresses (Not Refusal.ProgramTooLong)
   program-long a b h = record { answer = rw (le-ltb _ _ a, le-ltb _ _ b, lt-ltb _ _ h); fine = tt }
 
-  module _ (l : Limited prog page) where
-    pub locations-short : locations ≤ prog / 8 → Sizes prog page locations fields targets ids addresses (Not Refusal.TableTooShort)
-    locations-short h =
-        record { answer = rw (le-ltb _ _ (l .not-short), le-ltb _ _ (l .not-long), le-ltb _ _ (l .program), le-leb _ _ h); fine = tt }
+  module _ (l : Limited prog page) {short : Bool} (s : short ≡ shortTable (prog / 8) locations fields targets kinds makers) where
+    pub table-short : short ≡ true → Sizes prog page locations fields targets kinds makers ids addresses (Not Refusal.TableTooShort)
+    table-short e = record { answer = sym (rest prog page locations fields targets kinds makers ids addresses l ∙ rw (← s, e)); fine = tt }
 
-    pub fields-short : prog / 8 < locations → fields ≤ prog / 8 → Sizes prog page locations fields targets ids addresses (Not Refusal.TableTooShort)
-    fields-short a h =
-        record {
-          answer = rw (le-ltb _ _ (l .not-short), le-ltb _ _ (l .not-long), le-ltb _ _ (l .program), lt-leb _ _ a, le-leb _ _ h);
-          fine = tt;
-        }
-
-    pub targets-short : prog / 8 < locations → prog / 8 < fields → targets ≤ prog / 8
-        → Sizes prog page locations fields targets ids addresses (Not Refusal.TableTooShort)
-    targets-short a b h =
-        record {
-          answer = rw (le-ltb _ _ (l .not-short), le-ltb _ _ (l .not-long), le-ltb _ _ (l .program), lt-leb _ _ a, lt-leb _ _ b, le-leb _ _ h);
-          fine = tt;
-        }
-
-    module _ (t : Tables prog locations fields targets) where
-      pub unpaired : ¬ (length ids ≡ addresses) → Sizes prog page locations fields targets ids addresses (Not Refusal.BadHelpers)
-      unpaired h = record { answer = sym (helpers ids addresses l t ∙ rw (ne-eqb _ _ h)); fine = tt }
+    module _ (long : short ≡ false) where
+      pub unpaired : ¬ (length ids ≡ addresses) → Sizes prog page locations fields targets kinds makers ids addresses (Not Refusal.BadHelpers)
+      unpaired h = record { answer = sym (rest prog page locations fields targets kinds makers ids addresses l ∙ rw (← s, long, ne-eqb _ _ h)); fine = tt }
 
       pub too-many : length ids ≡ addresses → mostHelpers < length ids
-          → Sizes prog page locations fields targets ids addresses (Not Refusal.BadHelpers)
-      too-many e h = record { answer = sym (helpers ids addresses l t ∙ rw (eq-eqb _ _ e, lt-ltb _ _ h)); fine = tt }
+          → Sizes prog page locations fields targets kinds makers ids addresses (Not Refusal.BadHelpers)
+      too-many e h = record { answer = sym (rest prog page locations fields targets kinds makers ids addresses l ∙ rw (← s, long, eq-eqb _ _ e, lt-ltb _ _ h)); fine = tt }
 
       pub one-twice : {b : Bool} → length ids ≡ addresses → length ids ≤ mostHelpers → b ≡ twice ids → b ≡ true
-          → Sizes prog page locations fields targets ids addresses (Not Refusal.BadHelpers)
-      one-twice e h q f = record { answer = sym (helpers ids addresses l t ∙ rw (eq-eqb _ _ e, le-ltb _ _ h, ← q, f)); fine = tt }
+          → Sizes prog page locations fields targets kinds makers ids addresses (Not Refusal.BadHelpers)
+      one-twice e h q f = record { answer = sym (rest prog page locations fields targets kinds makers ids addresses l ∙ rw (← s, long, eq-eqb _ _ e, le-ltb _ _ h, ← q, f)); fine = tt }
 
       pub passed : {b : Bool} → length ids ≡ addresses → length ids ≤ mostHelpers → b ≡ twice ids → b ≡ false
-          → Sizes prog page locations fields targets ids addresses Good
+          → Sizes prog page locations fields targets kinds makers ids addresses Good
       passed e h q f =
           record {
-            answer = sym (helpers ids addresses l t ∙ rw (eq-eqb _ _ e, le-ltb _ _ h, ← q, f));
-            fine = (l .not-short, (l .not-long, (l .program, (t .first, (t .second, (t .third, e))))));
+            answer = sym (rest prog page locations fields targets kinds makers ids addresses l ∙ rw (← s, long, eq-eqb _ _ e, le-ltb _ _ h, ← q, f));
+            fine = (l .not-short, (l .not-long, (l .program, (sym s ∙ long, e))));
           }
+
+-- each table has an entry for every slot and one more
+pub record LongEnough (n locations fields targets kinds makers : ℕ) : Type 0 where
+  pub first : n < locations
+  pub second : n < fields
+  pub third : n < targets
+  pub fourth : n < kinds
+  pub fifth : n < makers
+
+pub long-enough : (n a b c d e : ℕ) → shortTable n a b c d e ≡ false → LongEnough n a b c d e
+long-enough n a b c d e q₁ =
+    let q₂ = or-false-r (leb a n) (leb b n || (leb c n || (leb d n || leb e n))) q₁ in
+    let q₃ = or-false-r (leb b n) (leb c n || (leb d n || leb e n)) q₂ in
+    let q₄ = or-false-r (leb c n) (leb d n || leb e n) q₃ in
+    record {
+      first = leb-no a n (or-false-l (leb a n) _ q₁);
+      second = leb-no b n (or-false-l (leb b n) _ q₂);
+      third = leb-no c n (or-false-l (leb c n) _ q₃);
+      fourth = leb-no d n (or-false-l (leb d n) _ q₄);
+      fifth = leb-no e n (or-false-r (leb d n) _ q₄);
+    }
 
 -- The tests are how the definition begins.
 abbrev pub begins : Verdict → Outcome → Outcome
@@ -170,7 +164,7 @@ begins-pick false r s o = refl
 
 abbrev sizedOf : Inputs → Verdict
 sizedOf x =
-    sized (length (x .filter .program)) (x .page) (x .locations) (x .fields) (x .targets) (x .filter .ids) (length (x .filter .addresses))
+    sized (length (x .filter .program)) (x .page) (x .locations) (x .fields) (x .targets) (x .kinds) (x .makers) (x .filter .ids) (length (x .filter .addresses))
 
 pub sizes-begin : (x : Inputs) (o : Outcome) → sizesOf x o ≡ begins (sizedOf x) o
 unfolding sizesOf
@@ -179,7 +173,7 @@ sizes-begin x o =
     let a = ltb (x .page) shortestPage in
     let b = ltb longestPage (x .page) in
     let c = ltb longestProgram (length (x .filter .program)) in
-    let d = leb (x .locations) n || (leb (x .fields) n || leb (x .targets) n) in
+    let d = shortTable n (x .locations) (x .fields) (x .targets) (x .kinds) (x .makers) in
     let e = badHelpers (x .filter .ids) (x .filter .addresses) in
     let s₁ = pick e (Not Refusal.BadHelpers) Good in
     let s₂ = pick d (Not Refusal.TableTooShort) s₁ in

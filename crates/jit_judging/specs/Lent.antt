@@ -22,8 +22,8 @@ twice ids = jit.twice (now (ids .entry))
 abbrev pub rising : (ids : Lent) → Bool
 rising ids = S.rising (now (ids .entry))
 
-abbrev pub Sizes : (prog page locations fields targets : ℕ) → (ids : Lent) → (addresses : ℕ) → Verdict → Type 0
-Sizes prog page locations fields targets ids addresses r = S.Sizes prog page locations fields targets (now (ids .entry)) addresses r
+abbrev pub Sizes : (prog page locations fields targets kinds makers : ℕ) → (ids : Lent) → (addresses : ℕ) → Verdict → Type 0
+Sizes prog page locations fields targets kinds makers ids addresses r = S.Sizes prog page locations fields targets kinds makers (now (ids .entry)) addresses r
 
 abbrev pub verdictOf : Filter → (page : ℕ) → (start : Position) → Verdict
 verdictOf filter page start = J.verdictOf (slotsOf (filter .program)) page (start .offset) (walked filter page start)

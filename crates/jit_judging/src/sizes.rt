@@ -2,6 +2,7 @@
 ghost use mathlib.Core.Path.{_≡_};
 ghost use Prim.Native.Nat.{_≤_};
 ghost use lib.ListN.{length};
+ghost use Rattle.jit.specs.Translation.{shortTable};
 ghost use Rattle.jit_judging.specs.Lent.{listedFrom, twice, rising, Sizes};
 use jit::Refusal;
 use jit_walk::verdict::Verdict;
@@ -53,6 +54,32 @@ fn is_twice(ids: &[u32]) -> bool
     false
 }
 
+// Has a table fewer entries than n slots, and one?
+fn is_short(
+    n: usize,
+    locations: usize,
+    fields: usize,
+    targets: usize,
+    kinds: usize,
+    makers: usize,
+) -> bool
+    ensures { λ r. ⌜ r ≡ shortTable n locations fields targets kinds makers ⌝ }
+{
+    if locations <= n {
+        return true;
+    }
+    if fields <= n {
+        return true;
+    }
+    if targets <= n {
+        return true;
+    }
+    if kinds <= n {
+        return true;
+    }
+    makers <= n
+}
+
 // The lengths are those of the program, the page, the tables and the address list.
 pub fn sizes(
     prog: usize,
@@ -60,10 +87,12 @@ pub fn sizes(
     locations: usize,
     fields: usize,
     targets: usize,
+    kinds: usize,
+    makers: usize,
     ids: &[u32],
     addresses: usize,
 ) -> Verdict
-    ensures { λ r. ⌜ Sizes prog page locations fields targets ids addresses r ⌝ }
+    ensures { λ r. ⌜ Sizes prog page locations fields targets kinds makers ids addresses r ⌝ }
 {
     if page < jit::SHORTEST_PAGE {
         return Verdict::Not(Refusal::PageTooShort);
@@ -74,14 +103,7 @@ pub fn sizes(
     if jit::LONGEST_PROGRAM < prog {
         return Verdict::Not(Refusal::ProgramTooLong);
     }
-    let n = prog / 8;
-    if locations <= n {
-        return Verdict::Not(Refusal::TableTooShort);
-    }
-    if fields <= n {
-        return Verdict::Not(Refusal::TableTooShort);
-    }
-    if targets <= n {
+    if is_short(prog / 8, locations, fields, targets, kinds, makers) {
         return Verdict::Not(Refusal::TableTooShort);
     }
     if ids.len() != addresses {

@@ -20,7 +20,7 @@ use Rattle.x86.specs.Instr.{Instr, op, Jump, jmp, call, jcc, jump}
 use Rattle.x86.specs.Encode.{isa, len}
 use Rattle.x86.specs.Code.{Dest, near, to, field, size, place, target, targetsOf}
 use Rattle.x86.specs.Lowered.{lowered, codeOf, fieldsOf}
-use Rattle.x86.proofs.CodeLaws.{lawful, length-fields, length-bytes, len-map, size-append}
+use Rattle.x86.proofs.CodeLaws.{lawful, length-bytes, len-map, size-append}
 use Rattle.code.proofs.CodeLaws.{lowered-append}
 use Rattle.code.proofs.LandingLaws.{follow-near, lowered-span, stands-lower, entry-of, Raised, raise}
 use Rattle.code.proofs.LandingLaws as shared
@@ -28,7 +28,9 @@ use Rattle.jit.specs.MulDivMod.{Code}
 use Rattle.jit.specs.Slots.{slotCode}
 use Rattle.jit.specs.Frame.{saves, packetStart, packetEnd, argument, enter, prologue, epilogue}
 use Rattle.jit.specs.Translation.{Inputs, slotsOf, Block, slotsWide, flat, whole, pageOf, locations, placeOf}
+use Rattle.jit.specs.JumpTables.{kindTable, makerTable}
 use Rattle.jit.specs.Passes.{exitOf}
+use Rattle.jit.proofs.FrameLaws.{epilogue-targets}
 use Rattle.jit.proofs.Bounds.{whole-size}
 use Rattle.jit.specs.Translation.{slotsIn}
 use Rattle.jit.specs.declared.Flags.{Flags}
@@ -204,9 +206,17 @@ module _ (x : Inputs) (bs : List Block) (is-blocks : blocksOf x ≡ bs) (from : 
   end-lt : (pre : Code) (i : Instr Dest) (post : Code) → whole f bs ≡ pre ++ i ∷ post → size pre + len i < 2 ^ 31
   end-lt pre i post e = omega (arith, ap size e ∙ size-append pre (i ∷ post))
 
+  abbrev kinds : List ℕ
+  kinds = kindTable isa (pageOf f bs)
+
+  abbrev makers : List ℕ
+  makers = makerTable (pageOf f bs)
+
   lands : (k : ℕ) → k < length (fieldsOf 0 (whole f bs))
-      → Lands x code all locs (getD (fieldsOf 0 (whole f bs)) k 0) (getD (targetsOf (whole f bs)) k 0)
-  lands = rw is-blocks (shared.lands-at lawful (pageOf f bs) (slotsOf (x .filter .program)) short few good (ExitAt code all) (exit-there f bs))
+      → Lands x code all locs (getD (fieldsOf 0 (whole f bs)) k 0) (getD (targetsOf (whole f bs)) k 0) (getD kinds k 0) (getD makers k 0)
+  lands =
+      rw is-blocks
+      (shared.lands-at lawful (pageOf f bs) (slotsOf (x .filter .program)) short few good epilogue-targets (ExitAt code all) (exit-there f bs))
 
   -- the other jumps
   module _ (q v : ℕ) (j : Jump) (behind : List (Instr ℕ)) (r : Raised isa loc 0 (whole f bs) j v q behind) where
@@ -318,10 +328,11 @@ module _ (x : Inputs) (bs : List Block) (is-blocks : blocksOf x ≡ bs) (from : 
             goes = follow-near (size (prologue f) - 5) 5 (omega (arith, m, n)) ∙ omega (arith, n);
           }
 
-  pub landing : Landing x code all locs (fieldsOf 0 (whole f bs)) (targetsOf (whole f bs))
+  pub landing : Landing x code all locs (fieldsOf 0 (whole f bs)) (targetsOf (whole f bs)) kinds makers
   landing =
       record {
-        pairs = sym (length-fields 0 (whole f bs));
+        pairs =
+            shared.pairs lawful (pageOf f bs) (slotsOf (x .filter .program)) short few good epilogue-targets (ExitAt code all) (exit-there f bs);
         listed = lands;
         enters = enters;
         others = λ p v j s.

@@ -36,7 +36,7 @@ use Rattle.jit.specs.Translation.{Inputs, slotsOf, found, helperOf, Block, bloc
 use Rattle.jit.specs.Translation.{stop, go, taken, known, goodRegisters, stepRead, stepAt, Walk, refused, done, slotsWide, within, after, rest, flat}
 use Rattle.jit.specs.Translation.{goodTarget, badIn, orElse, firstBad, Outcome, no, yes, whole, locations, placeOf, accepted, unlessBad, finish, walkOf}
 use Rattle.jit.specs.Passes.{exitOf}
-use Rattle.jit.specs.Translation.{badHelpers, sizesOf, translationOf}
+use Rattle.jit.specs.Translation.{badHelpers, shortTable, sizesOf, translationOf}
 use Rattle.jit.proofs.Counted.{all-slots, length-locations}
 use Rattle.jit.proofs.Bounds.{Bound, bounds}
 use Rattle.jit_safety.specs.Demand3.{Given}
@@ -305,7 +305,7 @@ module _ (x : Inputs) (given : Given x) (code locs fields targets : List ℕ) wh
   unfolding translationOf sizesOf
   parts e =
       by (ltb (x .page) shortestPage) (ltb longestPage (x .page)) (ltb longestProgram (length (x .filter .program))) refl
-      (leb (x .locations) n || (leb (x .fields) n || leb (x .targets) n)) (badHelpers (x .filter .ids) (x .filter .addresses)) e
+      (shortTable n (x .locations) (x .fields) (x .targets) (x .kinds) (x .makers)) (badHelpers (x .filter .ids) (x .filter .addresses)) e
     where
       n : ℕ
       n = slotsOf (x .filter .program)

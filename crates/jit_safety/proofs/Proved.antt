@@ -18,7 +18,8 @@ use Rattle.jit.specs.Limits.{anchor}
 use Rattle.jit.specs.Frame.{saves, packetStart, packetEnd, argument, enter, prologue, epilogue}
 use Rattle.jit.proofs.FrameLaws.{prologueSize, prologue-size}
 use Rattle.jit.specs.declared.Flags.{Flags}
-use Rattle.jit.specs.Translation.{Inputs, slotsOf, Block, done, walkOf, flat, whole, locations, placeOf, Outcome, yes, translationOf}
+use Rattle.jit.specs.Translation.{Inputs, slotsOf, Block, done, walkOf, flat, whole, pageOf, locations, placeOf, Outcome, yes, translationOf}
+use Rattle.jit.specs.JumpTables.{pageFor, kindTable, makerTable}
 use Rattle.jit.specs.Passes.{exitOf}
 use Rattle.jit.proofs.Bounds.{whole-size}
 use Rattle.x86_machine.specs.Machine.{State, Input, running, finished, faulted, unbalanced, divided, astray, run, topOf, EntersFrom}
@@ -164,6 +165,7 @@ module _ (x : Inputs) (bs : List Block) (walked : walkOf x ≡ done bs) (from : 
   is-instructions = ap (λ (l : List Block). lowered (placeOf (locations f l) (exitOf f l)) 0 (whole f l)) is-blocks
 
   of-blocks : Demand3 x (codeOf places (whole f bs)) (locations f bs) (fieldsOf 0 (whole f bs)) (targetsOf (whole f bs))
+      (kindTable isa (pageOf f bs)) (makerTable (pageOf f bs))
   of-blocks =
       record {
         reading = rw is-instructions (reads places (whole f bs) (page-wf f bs o) (prologue f ++ (flat bs ++ restoring)) (ends-in-ret f bs));
@@ -172,10 +174,12 @@ module _ (x : Inputs) (bs : List Block) (walked : walkOf x ≡ done bs) (from : 
         stack = stack f bs o short;
       }
 
-of-parts : (x : Inputs) (c l fs ts : List ℕ) → Parts x c l fs ts → Demand3 x c l fs ts
-of-parts x c l fs ts p = rw (p .is-code, p .is-locs, p .is-fields, p .is-targets) (of-blocks x (p .blocks) (p .walked) (p .origins) (p .short) (p .few) (p .good))
+of-parts : (x : Inputs) (c l fs ts : List ℕ) → Parts x c l fs ts → Demand3 x c l fs ts (kindTable isa (pageFor x)) (makerTable (pageFor x))
+of-parts x c l fs ts p =
+    rw (p .walked, p .is-code, p .is-locs, p .is-fields, p .is-targets)
+    (of-blocks x (p .blocks) (p .walked) (p .origins) (p .short) (p .few) (p .good))
 
 -- DEMAND 3, of everything that is accepted.
 pub demand3 : (x : Inputs) → Given x → (code locs fields targets : List ℕ)
-    → translationOf x ≡ yes code locs fields targets → Demand3 x code locs fields targets
+    → translationOf x ≡ yes code locs fields targets → Demand3 x code locs fields targets (kindTable isa (pageFor x)) (makerTable (pageFor x))
 demand3 x given c l fs ts e = of-parts x c l fs ts (parts x given c l fs ts e)

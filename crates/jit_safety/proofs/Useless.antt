@@ -18,7 +18,7 @@ use Rattle.jit_safety.proofs.UselessReading.{nothing-written}
 use Rattle.jit_safety.proofs.UselessLanding as landing
 use Rattle.jit_safety.proofs.UselessRuns.{never-divided, uneven-end}
 
-module _ (x : Inputs) (code locs fields targets : List ℕ) (d : Demand3 x code locs fields targets) where
+module _ (x : Inputs) (code locs fields targets kinds makers : List ℕ) (d : Demand3 x code locs fields targets kinds makers) where
   -- one that answers success and writes nothing, on a page whose first bytes are not read as `push RBP`
   pub page-left : ((r : List ℕ) → decode code ≢ got (op (push RBP)) r) → ⊥
   page-left n = nothing-written code n x (d .reading)
@@ -26,7 +26,7 @@ module _ (x : Inputs) (code locs fields targets : List ℕ) (d : Demand3 x code 
   -- one that leaves a field unfilled
   pub field-left : (k : ℕ) → k < length fields → getD fields k 0 + 4 < 2 ^ 64
       → placeOf locs (length code - 16) (getD targets k 0) ≢ getD fields k 0 + 4 → take 4 (drop (getD fields k 0) code) ≡ le32 0 → ⊥
-  field-left k h = landing.unfilled x code (instructionsOf x) locs fields targets (d .landing) k h
+  field-left k h = landing.unfilled x code (instructionsOf x) locs fields targets kinds makers (d .landing) k h
 
   -- one whose code divides by zero
   pub division-raises : (us : List Input) (s : State) → Begins s → run code us s ≡ divided → ⊥
@@ -40,4 +40,4 @@ module _ (x : Inputs) (code locs fields targets : List ℕ) (d : Demand3 x code 
 -- and `translationOf` itself gives no such page
 pub page-never-left : (x : Inputs) → Given x → (code locs fields targets : List ℕ) → translationOf x ≡ yes code locs fields targets
     → ((r : List ℕ) → decode code ≢ got (op (push RBP)) r) → ⊥
-page-never-left x given code locs fields targets e = page-left x code locs fields targets (demand3 x given code locs fields targets e)
+page-never-left x given code locs fields targets e = page-left x code locs fields targets _ _ (demand3 x given code locs fields targets e)

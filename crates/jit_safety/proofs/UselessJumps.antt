@@ -108,7 +108,8 @@ module _ (x : Inputs) (j : Jump) (v e : ℕ) (behind : List (Instr ℕ)) (s : Sk
       n (s .goes ∙ rw z)
 
 -- A jump that no entry lists, in a page that lands.
-module _ (x : Inputs) (code : List ℕ) (is : List (Instr ℕ)) (locs fields targets : List ℕ) (l : Landing x code is locs fields targets) where
+module _ (x : Inputs) (code : List ℕ) (is : List (Instr ℕ)) (locs fields targets kinds makers : List ℕ)
+    (l : Landing x code is locs fields targets kinds makers) where
   abbrev NotListed : ℕ → Type 0
   NotListed e = (k : ℕ) → k < length fields → getD fields k 0 + 4 ≢ e
 

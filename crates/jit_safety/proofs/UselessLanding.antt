@@ -1,6 +1,6 @@
 -- What LANDING rules out by itself of the jumps that are listed, of any code, instructions and tables, not only of those that
 -- `translationOf` gives: tables that do not fit together, fields that are no jump's, unfilled, measured from the wrong place or otherwise
--- wrong, locations that are not where the slots begin, and another epilogue.
+-- wrong, locations that are not where the slots begin, another epilogue, and a kind or a maker that is not the jump's.
 use mathlib.Core.Path.{_≡_, refl, ap, sym, _∙_}
 use mathlib.Core.Logic.{_≢_}
 use mathlib.Core.List.{List, [], _∷_, _++_}
@@ -14,8 +14,10 @@ use Rattle.base.proofs.Tests.{eqb-true, eqb-false}
 use Rattle.base.specs.declared.Width.the-variants.{W64}
 use Rattle.x86.specs.Registers.{RSP}
 use Rattle.x86.specs.Instr.{Instr, op, aluImm, ADD, Jump, jump}
-use Rattle.x86.specs.Encode.{rex, len}
+use Rattle.x86.specs.Encode.{isa, rex, len, jumpKind}
+use Rattle.x86.specs.Code.{size}
 use Rattle.jit.specs.Limits.{anchor}
+use Rattle.jit.specs.Frame.{prologue}
 use Rattle.jit.specs.Translation.{Inputs, Block, slotsWide, placeOf}
 use Rattle.jit.proofs.Bounds.{wide-some}
 use Rattle.jit.specs.Translation.{slotsIn}
@@ -24,7 +26,8 @@ use Rattle.code.specs.Code.{span}
 use Rattle.code.proofs.Placed.{span-append, unique}
 use Rattle.x86.proofs.ReadsLaws.{len-some}
 use Rattle.code.proofs.LandingLaws.{measured, follow-to}
-use Rattle.jit_safety.specs.Demand3.{blocksOf, Stands, SlotAt, leaving, ExitAt, Meant, slot, exit, first, Landing}
+use Rattle.code.specs.Landing.{Within}
+use Rattle.jit_safety.specs.Demand3.{blocksOf, pageFor, Stands, SlotAt, leaving, ExitAt, Meant, slot, exit, first, ofSlot, ofPrologue, Landing}
 
 -- One instruction stands at a place, and one ends at a place.
 pub one-stands : (is : List (Instr ℕ)) (p : ℕ) (i j : Instr ℕ) → Stands is p i → Stands is p j → i ≡ j
@@ -43,10 +46,16 @@ one-ends is p q i j a b e =
         let t : len y ≡ len w = cc in
         by pre qre (cc) (omega (arith, t, z))
 
--- A slot begins at one place.
-pub one-slot : (x : Inputs) (t p q : ℕ) (b c : Block) → SlotAt x t p b → SlotAt x t q c → p ≢ q → ⊥
-one-slot x t p q b c v w n = n (sym (v .place) ∙ rw (same (v .ahead) (w .ahead) (sym (v .split) ∙ w .split) (v .number ∙ sym (w .number))) (w .place))
+-- A slot begins at one place, and has one block.
+one-block : (x : Inputs) (t p q : ℕ) (b c : Block) → SlotAt x t p b → SlotAt x t q c → (p ≡ q) × (b ≡ c)
+one-block x t p q b c v w =
+    let ahead = same (v .ahead) (w .ahead) (sym (v .split) ∙ w .split) (v .number ∙ sym (w .number)) in
+    (sym (v .place) ∙ rw ahead (w .place), here (w .ahead) (sym (rw ahead at (v .split)) ∙ w .split))
   where
+    here : (a : List Block) → a ++ b ∷ v .behind ≡ a ++ c ∷ w .behind → b ≡ c
+    here [] e = cc
+    here (y ∷ a) e = here a (cc)
+
     same : (a d : List Block) → a ++ b ∷ v .behind ≡ d ++ c ∷ w .behind → slotsIn a ≡ slotsIn d → a ≡ d
     same [] [] e z = refl
     same [] (y ∷ d) e z = absurd (omega (arith, wide-some (y .wide)))
@@ -55,6 +64,9 @@ one-slot x t p q b c v w n = n (sym (v .place) ∙ rw (same (v .ahead) (w .ahead
         let h : y ≡ u = cc in
         let k : slotsWide (y .wide) ≡ slotsWide (u .wide) = cc in
         rw (h, same a d (cc) (omega (arith, k, z)))
+
+pub one-slot : (x : Inputs) (t p q : ℕ) (b c : Block) → SlotAt x t p b → SlotAt x t q c → p ≢ q → ⊥
+one-slot x t p q b c v w n = n (one-block x t p q b c v w .0)
 
 -- no slot has a number past the last one's
 pub no-such-slot : (x : Inputs) (t q : ℕ) (b : Block) → slotsIn (blocksOf x) ≤ t → SlotAt x t q b → ⊥
@@ -99,8 +111,8 @@ lies x code is locs t p (exit e v) = rw (eqb-true t anchor e) (omega (arith, v .
 lies x code is locs t p (first l n m e z) = rw (eqb-false t anchor n) (e ∙ sym z)
 
 -- An entry of the tables, the k-th, in a page that lands.
-module _ (x : Inputs) (code : List ℕ) (is : List (Instr ℕ)) (locs fields targets : List ℕ) (l : Landing x code is locs fields targets)
-    (k : ℕ) (h : k < length fields) where
+module _ (x : Inputs) (code : List ℕ) (is : List (Instr ℕ)) (locs fields targets kinds makers : List ℕ)
+    (l : Landing x code is locs fields targets kinds makers) (k : ℕ) (h : k < length fields) where
   abbrev at : ℕ
   at = getD fields k 0
 
@@ -175,7 +187,57 @@ module _ (x : Inputs) (code : List ℕ) (is : List (Instr ℕ)) (locs fields tar
       by {p} (exit q v) = epilogue-of-504 code is before p e v
       by (first g a o q z) = a n
 
+  -- a jump of another kind than the table names
+  pub wrong-kind : (p : ℕ) (j : Jump) (v : ℕ) → Stands is p (jump j v) → p + len {D = ℕ} (jump j v) ≡ at + 4 → jumpKind j ≢ getD kinds k 0 → ⊥
+  wrong-kind p j v s e n =
+      let d = l .listed k h in
+      let q = one-ends is p (d .begins) (jump j v) (jump (d .kind) (d .field)) s (d .stands) (e ∙ sym (d .ends)) in
+      let z : j ≡ d .kind = cc in
+      n (rw z (d .named))
+
+  -- a field before the code of the slot that the table names, or that ends behind it; a slot that there is not; and, where it names n, a
+  -- field that ends behind the prologue
+  abbrev maker : ℕ
+  maker = getD makers k 0
+
+  module _ (q : ℕ) (b : Block) (s : SlotAt x maker q b) where
+    within : (q ≤ at) × (at + 4 ≤ q + size (b .code))
+    within = by (l .listed k h .maker)
+      where
+        by : Within isa (pageFor x) maker at → (q ≤ at) × (at + 4 ≤ q + size (b .code))
+        by (ofSlot p c v from to) =
+            let same = one-block x maker q p b c s v in
+            rw (same .0, same .1) (from, to)
+        by (ofPrologue e i) = absurd (no-such-slot x maker q b (omega (arith, e)) s)
+
+    pub before-its-maker : at < q → ⊥
+    before-its-maker n = omega (arith, n, within .0)
+
+    pub behind-its-maker : q + size (b .code) < at + 4 → ⊥
+    behind-its-maker n = omega (arith, n, within .1)
+
+  pub no-such-maker : slotsIn (blocksOf x) < maker → ⊥
+  no-such-maker n = by (l .listed k h .maker)
+    where
+      by : Within isa (pageFor x) maker at → ⊥
+      by (ofSlot p c v from to) = no-such-slot x maker p c (omega (arith, n)) v
+      by (ofPrologue e i) = omega (arith, n, e)
+
+  pub behind-the-prologue : maker ≡ slotsIn (blocksOf x) → size (prologue (x .flags)) < at + 4 → ⊥
+  behind-the-prologue m n = by (l .listed k h .maker)
+    where
+      by : Within isa (pageFor x) maker at → ⊥
+      by (ofSlot p c v from to) = no-such-slot x maker p c (omega (arith, m)) v
+      by (ofPrologue e i) = omega (arith, n, i)
+
 -- tables of different lengths
-pub pairs-missing : (x : Inputs) (code : List ℕ) (is : List (Instr ℕ)) (locs fields targets : List ℕ) → length targets ≢ length fields
-    → Landing x code is locs fields targets → ⊥
-pairs-missing x code is locs fields targets n l = n (l .pairs)
+module _ (x : Inputs) (code : List ℕ) (is : List (Instr ℕ)) (locs fields targets kinds makers : List ℕ)
+    (l : Landing x code is locs fields targets kinds makers) where
+  pub pairs-missing : length targets ≢ length fields → ⊥
+  pairs-missing n = n (l .pairs .0)
+
+  pub kinds-missing : length kinds ≢ length fields → ⊥
+  kinds-missing n = n (l .pairs .1 .0)
+
+  pub makers-missing : length makers ≢ length fields → ⊥
+  makers-missing n = n (l .pairs .1 .1)

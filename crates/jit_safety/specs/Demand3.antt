@@ -20,11 +20,12 @@ use Rattle.x86.specs.Encode.{isa, len}
 use Rattle.x86.specs.Decode.{decode, got, readAll, all}
 use Rattle.x86.specs.Code.{size}
 use Rattle.code.specs.Code.{span}
-use Rattle.code.specs.Page.{Page, instructions}
+use Rattle.code.specs.Page.{instructions}
 use Rattle.code.specs.Landing as shared
-pub use Rattle.code.specs.Landing.{slot, exit, first}
+pub use Rattle.code.specs.Landing.{slot, exit, first, ofSlot, ofPrologue}
 use Rattle.jit.specs.Frame.{prologue}
-use Rattle.jit.specs.Translation.{Inputs, Block, Walk, refused, done, walkOf, pageOf, Outcome, yes, translationOf}
+use Rattle.jit.specs.Translation.{Inputs, Block}
+pub use Rattle.jit.specs.JumpTables.{blocksIn, blocksOf, pageFor}
 use Rattle.x86_machine.specs.Machine.{State, Input, running, finished, faulted, unbalanced, divided, astray, follow, run, topOf, EntersFrom}
 use Rattle.x86_machine.specs.Machine as machine
 
@@ -35,16 +36,6 @@ pub record Given (x : Inputs) : Type 0 where
   pub addresses : (k : ℕ) → getD (x .filter .addresses) k 0 < 2 ^ 64
 
 -- The instructions that demand 2 names: the prologue, the code of each block, the epilogue, each jump with its field.
-abbrev pub blocksIn : Walk → List Block
-blocksIn (refused r) = []
-blocksIn (done bs) = bs
-
-abbrev pub blocksOf : Inputs → List Block
-blocksOf x = blocksIn (walkOf x)
-
-abbrev pub pageFor : Inputs → Page Plain Jump
-pageFor x = pageOf (x .flags) (blocksOf x)
-
 abbrev pub instructionsOf : Inputs → List (Instr ℕ)
 instructionsOf x = instructions isa (pageFor x)
 
@@ -80,12 +71,12 @@ pub record ExitAt (code : List ℕ) (is : List (Instr ℕ)) (p : ℕ) : Type 0 w
   pub place : span len before ≡ p
   pub ends : p + 16 ≡ length code
 
--- p is where target t lies; and the field at f is the last four bytes of a jump, conditional jump or call, and the processor, following it,
--- goes where target t lies
+-- p is where target t lies; and the field at f is the last four bytes of a jump, conditional jump or call of the kind s, within the code of
+-- slot w (within the prologue for n), and the processor, following it, goes where target t lies
 abbrev pub Meant : (x : Inputs) → (code : List ℕ) → List (Instr ℕ) → (locs : List ℕ) → (t p : ℕ) → Type 0
 Meant x code is = shared.Meant isa (pageFor x) (ExitAt code is)
 
-abbrev pub Lands : (x : Inputs) → (code : List ℕ) → List (Instr ℕ) → (locs : List ℕ) → (f t : ℕ) → Type 0
+abbrev pub Lands : (x : Inputs) → (code : List ℕ) → List (Instr ℕ) → (locs : List ℕ) → (f t s w : ℕ) → Type 0
 Lands x code is = shared.Lands isa (pageFor x) (ExitAt code is) code is
 
 -- A jump that is not listed, ending at e. It is the prologue's call, ends 5 bytes before the prologue does, and goes to the first byte
@@ -119,9 +110,9 @@ pub record Enters (x : Inputs) (is : List (Instr ℕ)) : Type 0 where
   pub stands : Stands is (size (prologue (x .flags)) - 10) (jump call field)
   pub goes : follow (size (prologue (x .flags)) - 5) field ≡ size (prologue (x .flags))
 
-pub record Landing (x : Inputs) (code : List ℕ) (is : List (Instr ℕ)) (locs fields targets : List ℕ) : Type 0 where
-  pub pairs : length targets ≡ length fields
-  pub listed : (k : ℕ) → k < length fields → Lands x code is locs (getD fields k 0) (getD targets k 0)
+pub record Landing (x : Inputs) (code : List ℕ) (is : List (Instr ℕ)) (locs fields targets kinds makers : List ℕ) : Type 0 where
+  pub pairs : (length targets ≡ length fields) × ((length kinds ≡ length fields) × (length makers ≡ length fields))
+  pub listed : (k : ℕ) → k < length fields → Lands x code is locs (getD fields k 0) (getD targets k 0) (getD kinds k 0) (getD makers k 0)
   pub enters : Enters x is
   pub others : (p v : ℕ) (j : Jump) (s : Stands is p (jump j v)) → Unlisted x fields j v (p + len {D = ℕ} (jump j v)) (s .behind)
 
@@ -151,8 +142,8 @@ pub record StackPointer (code fields : List ℕ) : Type 0 where
       → run code us s ≡ finished t → t .regs RSP ≡ (s .regs RSP + 8) % 2 ^ 64
 
 -- All four, of everything that is accepted.
-pub record Demand3 (x : Inputs) (code locs fields targets : List ℕ) : Type 0 where
+pub record Demand3 (x : Inputs) (code locs fields targets kinds makers : List ℕ) : Type 0 where
   pub reading : Reading code (instructionsOf x)
-  pub landing : Landing x code (instructionsOf x) locs fields targets
+  pub landing : Landing x code (instructionsOf x) locs fields targets kinds makers
   pub staying : Staying code (instructionsOf x)
   pub stack : StackPointer code fields

@@ -1,11 +1,11 @@
 -- What the handlers' contracts rule out: for each, two wrong handlers and an instruction that shows the difference. Where the contract is
 -- `Wrote` of some bytes, other bytes do not meet it on any page; where it is `Emits`, neither do a wrong target, field or count of jumps.
-use mathlib.Core.Path.{_≡_, _∙_, refl, ap}
+use mathlib.Core.Path.{_≡_, _∙_, refl, ap, sym}
+use mathlib.Core.Logic.{_≢_}
 use mathlib.Core.List.{List, [], _∷_}
-use Prim.Native.Nat.{ℕ, _+_, _-_, _%_, _^_, _<_}
+use Prim.Native.Nat.{ℕ, _+_, _-_, _%_, _^_}
 use native.Mathlib.Omega.{arith}
-use lib.ListN.{length, getD}
-use lib.Seq.{getD-set-same}
+use lib.ListN.{getD}
 use Rattle.base.specs.Bytes.{join}
 use Rattle.base.specs.declared.Width.{Width}
 use Rattle.base.specs.declared.Width.the-variants.{W32, W64}
@@ -19,11 +19,12 @@ use Rattle.x86.specs.Registers.{RAX, RSI, RDI, R10, R11}
 use Rattle.x86.specs.Instr as x86
 use Rattle.x86.specs.Instr.{op, alu, aluImm, shiftImm, shiftCl, unary, movabs, rol16, bswap, load, store, storeImm, jump, jcc, callReg, NEG, ADD, SUB, CMP, MOV, SHR, JG, JA, JNE}
 use Rattle.x86.specs.Encode.{encodePlain, rex, modrm, memory, bare, short}
-use Rattle.x86.specs.Code.{to}
+use Rattle.x86.specs.Code.{to, conditional, plainJump}
 use Rattle.x86.specs.Fill.{blanks}
 use Rattle.jit.specs.MulDivMod.{Code}
 use Rattle.jit.specs.Slots.{regOf, targetOf, loadImm, aluCode, shiftCode, movCode, swap, jumpCode, callCode, slotCode}
-use Rattle.jit_recording.specs.Emits.{Emits, Put}
+use Rattle.jit_recording.specs.Emits.{Tables, Emits, HasEntry}
+use Rattle.jit_recording.proofs.EmitsLaws.{entry}
 use Rattle.x86_emit.proofs.Useless.{Stored, meant, Case, _for_, Refuted, refuted}
 
 -- r1 is RDI, r2 RSI; the opcode only where a handler looks at it
@@ -90,43 +91,58 @@ pub handlers : Refuted handled
 unfolding rex modrm memory bare short regOf loadImm
 handlers = refuted handled refl
 
--- what stands in a table at the entry that was put there
-entry : {l l′ : List ℕ} {k r x : ℕ} → Put l l′ k r (x ∷ []) → k < length l → getD l′ k 0 ≡ x
-entry {l} {k = k} {x = x} p h = ap (λ (t : List ℕ). getD t k 0) (p .is) ∙ getD-set-same l k x 0 h
-
-module _ {c c′ f f′ t t′ : List ℕ} {at j at′ j′ : ℕ} where
+module _ {c c′ : List ℕ} {t t′ : Tables} {at j at′ j′ : ℕ} where
   -- emit_ja: a target counted from its own slot, a field that is the jump's end, a jump that is not counted
-  pub ja : (slot : ℕ) (i : Insn) → Emits c c′ f f′ t t′ at j at′ j′ (slotCode Ja slot i 0) → j < length f → j < length t
-      → (getD t′ j 0 ≡ (slot + i .off) % 2 ^ 32 → ⊥) × ((getD f′ j 0 ≡ at′ → ⊥) × (j′ ≡ j → ⊥))
+  pub ja : (slot : ℕ) (i : Insn) → Emits c c′ t t′ at j at′ j′ slot (slotCode Ja slot i 0) → HasEntry t j
+      → (getD (t′ .targets) j 0 ≡ (slot + i .off) % 2 ^ 32 → ⊥) × ((getD (t′ .fields) j 0 ≡ at′ → ⊥) × (j′ ≡ j → ⊥))
   unfolding targetOf
-  ja slot i e g h =
-      (λ z. omega (arith, z, entry (e .targets) h), (λ z. omega (arith, z, entry (e .fields) g, e .wrote .next), λ z. omega (arith, z, e .targets .next)))
+  ja slot i e h =
+      (λ z. omega (arith, z, entry (e .targets) (h .target)), (λ z. omega (arith, z, entry (e .fields) (h .field), e .wrote .next), λ z. omega (arith, z, e .targets .next)))
 
   -- emit_jump: JGT_REG32 compared at 64 bits, and taken as signed; JSET_IMM compared and not tested; the target and the field as above
-  pub jumps : (slot : ℕ) → Emits c c′ f f′ t t′ at j at′ j′ (jumpAt slot W32 Reg (coded 0x2e 1 2 3 0))
+  pub jumps : (slot : ℕ) → Emits c c′ t t′ at j at′ j′ slot (jumpAt slot W32 Reg (coded 0x2e 1 2 3 0))
       → (Stored c c′ at at′ (blanks (op (alu CMP W64 RSI RDI) ∷ jump (jcc JA) (to 0) ∷ [])) → ⊥)
       × (Stored c c′ at at′ (blanks (op (alu CMP W32 RSI RDI) ∷ jump (jcc JG) (to 0) ∷ [])) → ⊥)
   unfolding rex modrm regOf
   jumps slot e = (λ s. omega (arith, ap join (meant (e .wrote) s)), λ s. omega (arith, ap join (meant (e .wrote) s)))
 
-  pub jset : (slot : ℕ) → Emits c c′ f f′ t t′ at j at′ j′ (jumpAt slot W64 Imm (coded 0x45 1 0 3 4)) → j < length f → j < length t
+  pub jset : (slot : ℕ) → Emits c c′ t t′ at j at′ j′ slot (jumpAt slot W64 Imm (coded 0x45 1 0 3 4)) → HasEntry t j
       → (Stored c c′ at at′ (blanks (op (aluImm CMP W64 RDI 4) ∷ jump (jcc JNE) (to 0) ∷ [])) → ⊥)
-      × ((getD t′ j 0 ≡ (slot + 3) % 2 ^ 32 → ⊥) × (getD f′ j 0 ≡ at′ → ⊥))
+      × ((getD (t′ .targets) j 0 ≡ (slot + 3) % 2 ^ 32 → ⊥) × (getD (t′ .fields) j 0 ≡ at′ → ⊥))
   unfolding rex modrm regOf targetOf
-  jset slot e g h = (
+  jset slot e h = (
     λ s. omega (arith, ap join (meant (e .wrote) s)),
-    (λ z. omega (arith, z, entry (e .targets) h), λ z. omega (arith, z, entry (e .fields) g, e .wrote .next)),
+    (λ z. omega (arith, z, entry (e .targets) (h .target)), λ z. omega (arith, z, entry (e .fields) (h .field), e .wrote .next)),
   )
 
   -- emit_call of a helper: its fourth argument left where it is, its call listed
-  pub helper : (slot : ℕ) → Emits c c′ f f′ t t′ at j at′ j′ (callCode slot (insn 0 0 0 3) 7)
+  pub helper : (slot : ℕ) → Emits c c′ t t′ at j at′ j′ slot (callCode slot (insn 0 0 0 3) 7)
       → (Stored c c′ at at′ (blanks (op (aluImm MOV W64 RAX 7) ∷ callReg RAX ∷ [])) → ⊥) × (j′ ≡ j + 1 → ⊥)
   unfolding rex modrm loadImm
   helper slot e = (λ s. omega (arith, ap join (meant (e .wrote) s)), λ z. omega (arith, z, e .targets .next))
 
   -- and within the program: a target by off, which is 0 here, a field that is the slot's end, registers that are not restored
-  pub local : (slot : ℕ) → Emits c c′ f f′ t t′ at j at′ j′ (callCode slot (insn 0 1 0 3) 0) → j < length f → j < length t
-      → (getD t′ j 0 ≡ (slot + 1) % 2 ^ 32 → ⊥) × ((getD f′ j 0 ≡ at′ - 4 → ⊥) × (at′ ≡ at + 12 → ⊥))
+  pub local : (slot : ℕ) → Emits c c′ t t′ at j at′ j′ slot (callCode slot (insn 0 1 0 3) 0) → HasEntry t j
+      → (getD (t′ .targets) j 0 ≡ (slot + 1) % 2 ^ 32 → ⊥) × ((getD (t′ .fields) j 0 ≡ at′ - 4 → ⊥) × (at′ ≡ at + 12 → ⊥))
   unfolding rex modrm targetOf
-  local slot e g h =
-      (λ z. omega (arith, z, entry (e .targets) h), (λ z. omega (arith, z, entry (e .fields) g, e .wrote .next), λ z. omega (arith, z, e .wrote .next)))
+  local slot e h =
+      (λ z. omega (arith, z, entry (e .targets) (h .target)), (λ z. omega (arith, z, entry (e .fields) (h .field), e .wrote .next), λ z. omega (arith, z, e .wrote .next)))
+
+  -- their records: je and jmp of one kind, a call that is a jump, a maker one slot late or none
+  pub ja-named : (slot : ℕ) (i : Insn) → Emits c c′ t t′ at j at′ j′ slot (slotCode Ja slot i 0) → HasEntry t j
+      → (getD (t′ .kinds) j 0 ≡ conditional → ⊥) × ((getD (t′ .makers) j 0 ≡ slot + 1 → ⊥) × (t′ .makers ≡ t .makers → getD (t .makers) j 0 ≢ slot → ⊥))
+  ja-named slot i e h = (
+    λ z. omega (arith, z, entry (e .kinds) (h .kind)),
+    (
+      λ z. omega (arith, z, entry (e .makers) (h .maker)),
+      λ z n. n (ap (λ (l : List ℕ). getD l j 0) (sym z) ∙ entry (e .makers) (h .maker)),
+    ),
+  )
+
+  pub jump-named : (slot : ℕ) → Emits c c′ t t′ at j at′ j′ slot (jumpAt slot W32 Reg (coded 0x2e 1 2 3 0)) → HasEntry t j
+      → (getD (t′ .kinds) j 0 ≡ plainJump → ⊥) × (getD (t′ .makers) j 0 ≡ slot + 1 → ⊥)
+  jump-named slot e h = (λ z. omega (arith, z, entry (e .kinds) (h .kind)), λ z. omega (arith, z, entry (e .makers) (h .maker)))
+
+  pub local-named : (slot : ℕ) → Emits c c′ t t′ at j at′ j′ slot (callCode slot (insn 0 1 0 3) 0) → HasEntry t j
+      → (getD (t′ .kinds) j 0 ≡ plainJump → ⊥) × (getD (t′ .makers) j 0 ≡ slot + 1 → ⊥)
+  local-named slot e h = (λ z. omega (arith, z, entry (e .kinds) (h .kind)), λ z. omega (arith, z, entry (e .makers) (h .maker)))

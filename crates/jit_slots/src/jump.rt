@@ -53,17 +53,29 @@ pub fn emit_ja(
     code: &mut [u8],
     fields: &mut [u32],
     targets: &mut [u32],
+    kinds: &mut [u32],
+    makers: &mut [u32],
     e: Emission,
     slot: Slot,
     i: Insn,
 ) -> Emission
-    requires { ⌜ Room code fields targets e (slotCode Ja (slot .number) i 0) ⌝ }
+    requires { ⌜ Room code fields targets kinds makers e (slotCode Ja (slot .number) i 0) ⌝ }
     requires { ⌜ slot .number < 2 ^ 16 ⌝ }
-    ensures { λ r. ⌜ Emits code fields targets e r (slotCode Ja (slot .number) i 0) ⌝ }
+    ensures { λ r. ⌜ Emits code fields targets kinds makers e r slot (slotCode Ja (slot .number) i 0) ⌝ }
 {
     let target = emission::target_of(slot, i.off);
     let next = jump::emit_jmp(code, e.at, 0);
-    emission::record_jump(fields, targets, next, e.jumps, target)
+    emission::record_jump(
+        fields,
+        targets,
+        kinds,
+        makers,
+        next,
+        e.jumps,
+        target,
+        jit::PLAIN,
+        slot,
+    )
 }
 
 // The second byte of Jcc's opcode, by the upper half of the slot's (RFC 9669, section 4.3), in sixteen arms as in alu.rt.
@@ -124,20 +136,32 @@ pub fn emit_jump(
     code: &mut [u8],
     fields: &mut [u32],
     targets: &mut [u32],
+    kinds: &mut [u32],
+    makers: &mut [u32],
     e: Emission,
     width: Width,
     source: Source,
     slot: Slot,
     i: Insn,
 ) -> Emission
-    requires { ⌜ Room code fields targets e (jumpCode (conditionOf (i .opc)) width source (slot .number) i) ⌝ }
+    requires { ⌜ Room code fields targets kinds makers e (jumpCode (conditionOf (i .opc)) width source (slot .number) i) ⌝ }
     requires { ⌜ (i .dst < 11) × ((i .src < 11) × (slot .number < 2 ^ 16)) ⌝ }
-    ensures { λ r. ⌜ Emits code fields targets e r (jumpCode (conditionOf (i .opc)) width source (slot .number) i) ⌝ }
+    ensures { λ r. ⌜ Emits code fields targets kinds makers e r slot (jumpCode (conditionOf (i .opc)) width source (slot .number) i) ⌝ }
 {
     let target = emission::target_of(slot, i.off);
     let compared = emit_compare(code, e.at, width, source, i);
     let next = jump::emit_jcc(code, compared, condition_byte(i.opc), 0);
-    emission::record_jump(fields, targets, next, e.jumps, target)
+    emission::record_jump(
+        fields,
+        targets,
+        kinds,
+        makers,
+        next,
+        e.jumps,
+        target,
+        jit::CONDITIONAL,
+        slot,
+    )
 }
 
 // RCX is kept free for shifts, so the fourth argument is copied to where the machine's calls have it.
@@ -175,15 +199,28 @@ fn emit_local_call(
     code: &mut [u8],
     fields: &mut [u32],
     targets: &mut [u32],
+    kinds: &mut [u32],
+    makers: &mut [u32],
     e: Emission,
+    slot: Slot,
     target: u32,
 ) -> Emission
-    requires { ⌜ Room code fields targets e (localCall target) ⌝ }
-    ensures { λ r. ⌜ Emits code fields targets e r (localCall target) ⌝ }
+    requires { ⌜ Room code fields targets kinds makers e (localCall target) × (slot .number < 2 ^ 16) ⌝ }
+    ensures { λ r. ⌜ Emits code fields targets kinds makers e r slot (localCall target) ⌝ }
 {
     let saved = emit_saved_registers(code, e.at);
     let called = jump::emit_call(code, saved, 0);
-    let recorded = emission::record_jump(fields, targets, called, e.jumps, target);
+    let recorded = emission::record_jump(
+        fields,
+        targets,
+        kinds,
+        makers,
+        called,
+        e.jumps,
+        target,
+        jit::LOCAL_CALL,
+        slot,
+    );
     let at = emit_restored_registers(code, recorded.at);
     Emission {
         at: at,
@@ -196,14 +233,16 @@ pub fn emit_call(
     code: &mut [u8],
     fields: &mut [u32],
     targets: &mut [u32],
+    kinds: &mut [u32],
+    makers: &mut [u32],
     e: Emission,
     slot: Slot,
     i: Insn,
     value: u64,
 ) -> Emission
-    requires { ⌜ Room code fields targets e (callCode (slot .number) i value) ⌝ }
+    requires { ⌜ Room code fields targets kinds makers e (callCode (slot .number) i value) ⌝ }
     requires { ⌜ slot .number < 2 ^ 16 ⌝ }
-    ensures { λ r. ⌜ Emits code fields targets e r (callCode (slot .number) i value) ⌝ }
+    ensures { λ r. ⌜ Emits code fields targets kinds makers e r slot (callCode (slot .number) i value) ⌝ }
 {
     if i.src == 0 {
         let at = emit_helper_call(code, e.at, value);
@@ -212,5 +251,14 @@ pub fn emit_call(
             jumps: e.jumps,
         };
     }
-    emit_local_call(code, fields, targets, e, emission::target_of(slot, i.imm))
+    emit_local_call(
+        code,
+        fields,
+        targets,
+        kinds,
+        makers,
+        e,
+        slot,
+        emission::target_of(slot, i.imm),
+    )
 }

@@ -1,5 +1,5 @@
 -- What the promise and the theorem rule out by themselves, so that none of their parts says nothing: of any program, buffers and answer.
-use mathlib.Core.Path.{_≡_, refl}
+use mathlib.Core.Path.{_≡_, refl, ap}
 use mathlib.Core.Logic.{_≢_}
 use mathlib.Core.List.{List}
 use Prim.Native.Nat.{ℕ}
@@ -8,6 +8,8 @@ use Rattle.x86.specs.Decode.{readAll, all}
 use Rattle.x86_machine.specs.Machine.{State, Input, divided, run}
 use Rattle.jit.specs.declared.Refusal.{Refusal}
 use Rattle.jit.specs.Translation.{Inputs, no, translationOf}
+use Rattle.base.specs.Lists.{over}
+use Rattle.jit.specs.JumpTables.{kindsIn, makersIn}
 use Rattle.jit_safety.specs.Demand3.{Given, instructionsOf, Begins}
 use Rattle.jit_translate.specs.Translated.{answerOf}
 use Rattle.jit_translate.specs.declared.translate.Answer.{Answer}
@@ -23,9 +25,23 @@ module _ {x : Inputs} {before after : Buffers} where
   pub refusal-changes : {q : Refusal} → after ≢ before → Promise x before after (Refused q) → ⊥
   refusal-changes n p = n (p .refusal _ refl .1)
 
+  -- .. such as a kind that is left behind, or a maker
+  pub kind-left-behind : {q : Refusal} → after .kinds ≢ before .kinds → Promise x before after (Refused q) → ⊥
+  kind-left-behind n p = n (ap (λ (b : Buffers). b .kinds) (p .refusal _ refl .1))
+
+  pub maker-left-behind : {q : Refusal} → after .makers ≢ before .makers → Promise x before after (Refused q) → ⊥
+  maker-left-behind n p = n (ap (λ (b : Buffers). b .makers) (p .refusal _ refl .1))
+
   -- demand 2: another answer than the definition's
   pub another-answer : {r : Answer} → r ≢ answerOf (translationOf x) → Promise x before after r → ⊥
   another-answer n p = n (p .bytes .answer)
+
+  -- kinds that are written as makers; a kind, or a maker, that is left as it was
+  pub kinds-otherwise : {r : Answer} → after .kinds ≢ over (kindsIn x (translationOf x)) (before .kinds) → Promise x before after r → ⊥
+  kinds-otherwise n p = n (p .names .kinds)
+
+  pub makers-otherwise : {r : Answer} → after .makers ≢ over (makersIn x (translationOf x)) (before .makers) → Promise x before after r → ⊥
+  makers-otherwise n p = n (p .names .makers)
 
   -- demand 3: a page that is read as other instructions; one that divides by zero
   pub read-otherwise : {L J : ℕ} → readAll (take L (after .code)) ≢ all (instructionsOf x) → Promise x before after (Accepted L J) → ⊥

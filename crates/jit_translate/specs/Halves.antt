@@ -5,7 +5,7 @@ use Prim.Native.Nat.{ℕ, _+_, _≤_, _<_}
 use lib.ListN.{length, getD, take, set}
 use lib.Seq.{sets}
 use Rattle.jit.specs.declared.Flags.{Flags}
-use Rattle.x86.specs.Code.{size, targetsOf}
+use Rattle.x86.specs.Code.{size, targetsOf, kindsOf, each}
 use Rattle.x86.specs.Lowered.{fieldsOf}
 use Rattle.x86.specs.Fill.{blanks}
 use Rattle.x86.specs.Fill.{filled}
@@ -14,24 +14,28 @@ use Rattle.jit.specs.Limits.{longestPage}
 use Rattle.jit.specs.Room.{epilogueSize}
 use Rattle.jit.specs.Frame.{prologue, epilogue}
 use Rattle.jit.specs.Translation.{Block, Walk, refused, done, flat, locations, placeOf, slotsIn}
+use Rattle.jit.specs.JumpTables.{madeFrom}
 use Rattle.jit.specs.Passes.{starts}
+use Rattle.jit_recording.specs.Emits.{Tables}
 
--- the first half: what the writing pass leaves, the prologue's part with it
-pub record Head (bs : List Block) (g : Flags) (c c′ l l′ f f′ t t′ : List ℕ) (end jumps : ℕ) : Type 0 where
+-- the first half: what the writing pass leaves, the prologue's part with it, whose jump's maker is n
+pub record Head (bs : List Block) (g : Flags) (n : ℕ) (c c′ l l′ : List ℕ) (t t′ : Tables) (end jumps : ℕ) : Type 0 where
   pub end-is : end ≡ size (prologue g) + size (flat bs)
   pub jumps-are : jumps ≡ 1 + length (targetsOf (flat bs))
   pub few : jumps ≤ slotsIn bs + 1
   pub code : Wrote c c′ 0 (size (prologue g) + size (flat bs)) (blanks (prologue g ++ flat bs))
   pub locations : l′ ≡ sets l 0 (starts (size (prologue g)) bs)
-  pub fields : f′ ≡ sets f 0 (fieldsOf 0 (prologue g ++ flat bs))
-  pub targets : t′ ≡ sets t 0 (targetsOf (prologue g ++ flat bs))
+  pub fields : t′ .fields ≡ sets (t .fields) 0 (fieldsOf 0 (prologue g ++ flat bs))
+  pub targets : t′ .targets ≡ sets (t .targets) 0 (targetsOf (prologue g ++ flat bs))
+  pub kinds : t′ .kinds ≡ sets (t .kinds) 0 (kindsOf (prologue g ++ flat bs))
+  pub makers : t′ .makers ≡ sets (t .makers) 0 (each n (targetsOf (prologue g)) ++ madeFrom 0 bs)
 
-abbrev pub BegunAs : Walk → Flags → (c c′ l l′ f f′ t t′ : List ℕ) → (end jumps : ℕ) → Type 0
-BegunAs (refused r) g c c′ l l′ f f′ t t′ end jumps = Unit {0}
-BegunAs (done bs) g c c′ l l′ f f′ t t′ end jumps = Head bs g c c′ l l′ f f′ t t′ end jumps
+abbrev pub BegunAs : Walk → Flags → (n : ℕ) → (c c′ l l′ : List ℕ) → (t t′ : Tables) → (end jumps : ℕ) → Type 0
+BegunAs (refused r) g n c c′ l l′ t t′ end jumps = Unit {0}
+BegunAs (done bs) g n c c′ l l′ t t′ end jumps = Head bs g n c c′ l l′ t t′ end jumps
 
-pub record Begun (w : Walk) (g : Flags) (c c′ l l′ f f′ t t′ : List ℕ) (end jumps : ℕ) : Type 0 where
-  pub state : BegunAs w g c c′ l l′ f f′ t t′ end jumps
+pub record Begun (w : Walk) (g : Flags) (n : ℕ) (c c′ l l′ : List ℕ) (t t′ : Tables) (end jumps : ℕ) : Type 0 where
+  pub state : BegunAs w g n c c′ l l′ t t′ end jumps
 
 -- The second half asks for room: for the epilogue, for location n, and for each listed field.
 pub record Closing (n end jumps : ℕ) (c l f t : List ℕ) : Type 0 where

@@ -4,16 +4,17 @@ use denote.Ref.{now}
 use Rattle.base.specs.Lent.{Slice, Lent}
 use Rattle.base.specs.declared.Slot.{Slot}
 use Rattle.base.specs.declared.Position.{Position}
-use Rattle.jit.specs.Translation.{Inputs, walkOf}
+use Rattle.jit.specs.Translation.{Inputs, slotsOf, walkOf}
+use Rattle.jit_recording.specs.Lent.{lent, left}
 use Rattle.jit_recording.specs.declared.emission.Emission.{Emission}
 use Rattle.jit_translate.specs.Halves as H
 
 -- the first half of writing what is asked
-abbrev pub Begun : Inputs → (code locations fields targets : Lent) → Emission → Type 0
-Begun x code locations fields targets r =
-    H.Begun (walkOf x) (x .flags)
+abbrev pub Begun : Inputs → (code locations fields targets kinds makers : Lent) → Emission → Type 0
+Begun x code locations fields targets kinds makers r =
+    H.Begun (walkOf x) (x .flags) (slotsOf (x .filter .program))
     (now (code .entry)) (now (code .exit)) (now (locations .entry)) (now (locations .exit))
-    (now (fields .entry)) (now (fields .exit)) (now (targets .entry)) (now (targets .exit)) (r .at .offset) (r .jumps)
+    (lent fields targets kinds makers) (left fields targets kinds makers) (r .at .offset) (r .jumps)
 
 -- the second half: it asks for room, and writes the epilogue at `end`, location n and the fields
 abbrev pub Closing : (code locations fields targets : Slice) → Slot → Position → (jumps : ℕ) → Type 0

@@ -10,17 +10,28 @@ use Rattle.jit_translate.specs.declared.translate.Answer.{Answer}
 use Rattle.jit_translate.specs.Translated as T
 
 -- what is asked of buffers by their lengths; and of the lent buffers, in a `requires` and in an `ensures`
-abbrev pub sized : Filter → Flags → (page locations fields targets : ℕ) → Inputs
-sized filter flags page locations fields targets =
-    record { filter = filter; flags = flags; page = page; locations = locations; fields = fields; targets = targets }
+abbrev pub sized : Filter → Flags → (page locations fields targets kinds makers : ℕ) → Inputs
+sized filter flags page locations fields targets kinds makers =
+    record {
+      filter = filter;
+      flags = flags;
+      page = page;
+      locations = locations;
+      fields = fields;
+      targets = targets;
+      kinds = kinds;
+      makers = makers;
+    }
 
-abbrev pub inputs : Slice → Flags → (ids addresses code locations fields targets : Slice) → Inputs
-inputs prog flags ids addresses code locations fields targets =
-    sized (filterIn prog ids addresses) flags (length (now code)) (length (now locations)) (length (now fields)) (length (now targets))
+abbrev pub inputs : Slice → Flags → (ids addresses code locations fields targets kinds makers : Slice) → Inputs
+inputs prog flags ids addresses code locations fields targets kinds makers =
+    sized (filterIn prog ids addresses) flags
+    (length (now code)) (length (now locations)) (length (now fields)) (length (now targets)) (length (now kinds)) (length (now makers))
 
-abbrev pub asked : Lent → Flags → (ids addresses code locations fields targets : Lent) → Inputs
-asked prog flags ids addresses code locations fields targets =
-    inputs (prog .entry) flags (ids .entry) (addresses .entry) (code .entry) (locations .entry) (fields .entry) (targets .entry)
+abbrev pub asked : Lent → Flags → (ids addresses code locations fields targets kinds makers : Lent) → Inputs
+asked prog flags ids addresses code locations fields targets kinds makers =
+    inputs (prog .entry) flags (ids .entry) (addresses .entry)
+    (code .entry) (locations .entry) (fields .entry) (targets .entry) (kinds .entry) (makers .entry)
 
 -- THE CONTRACT: the answer and the contents at exit are what `translationOf` gives on what is asked.
 abbrev pub Translated : Inputs → (code locations fields targets : Lent) → Answer → Type 0
@@ -28,3 +39,7 @@ Translated x code locations fields targets r =
     T.Translated (translationOf x)
     (now (code .entry)) (now (code .exit)) (now (locations .entry)) (now (locations .exit))
     (now (fields .entry)) (now (fields .exit)) (now (targets .entry)) (now (targets .exit)) r
+
+-- .. and those of the two further tables are what JumpTables.antt says of it.
+abbrev pub Named : Inputs → (kinds makers : Lent) → Type 0
+Named x kinds makers = T.Named x (now (kinds .entry)) (now (kinds .exit)) (now (makers .entry)) (now (makers .exit))

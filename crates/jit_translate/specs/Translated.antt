@@ -5,6 +5,7 @@ use Prim.Native.Nat.{ℕ}
 use lib.ListN.{length}
 use Rattle.base.specs.Lists.{over}
 use Rattle.jit.specs.Translation.{Inputs, Outcome, no, yes, translationOf}
+use Rattle.jit.specs.JumpTables.{kindsIn, makersIn}
 use Rattle.jit_walk.specs.declared.verdict.Verdict.{Verdict}
 use Rattle.jit_walk.specs.declared.verdict.Verdict.the-variants.{Good, Not}
 use Rattle.jit_translate.specs.declared.translate.Answer.{Answer}
@@ -48,3 +49,8 @@ pub record Translated (o : Outcome) (c₀ c₁ l₀ l₁ f₀ f₁ t₀ t₁ : L
   pub locations : l₁ ≡ over (locationsIn o) l₀
   pub fields : f₁ ≡ over (fieldsIn o) f₀
   pub targets : t₁ ≡ over (targetsIn o) t₀
+
+-- .. and what it says of each jump, in the two further tables: what demand 2's part of the contract, above, does not know of.
+pub record Named (x : Inputs) (k₀ k₁ m₀ m₁ : List ℕ) : Type 0 where
+  pub kinds : k₁ ≡ over (kindsIn x (translationOf x)) k₀
+  pub makers : m₁ ≡ over (makersIn x (translationOf x)) m₀

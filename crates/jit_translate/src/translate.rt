@@ -9,7 +9,7 @@ ghost use Rattle.jit.specs.Lent.{filterOf};
 ghost use Rattle.jit_walk.specs.Lent.{IsTable};
 ghost use Rattle.jit_walk.specs.declared.verdict.Verdict.the-variants.{Good};
 ghost use Rattle.jit_translate.specs.Translated.{Decided};
-ghost use Rattle.jit_translate.specs.Lent.{sized, inputs, asked, Translated};
+ghost use Rattle.jit_translate.specs.Lent.{sized, inputs, asked, Translated, Named};
 ghost use Rattle.jit_translate.specs.HalvesLent.{Begun, Closing, Ended};
 use base::Position;
 use base::Slot;
@@ -40,7 +40,7 @@ fn prologue_size(flags: Flags) -> usize
 
 // Whether the program is translated, and if not, why: `decide` below, by the opcode table, which `translate` lays out once for both halves.
 fn decide_in(
-    kinds: &[u8; 256],
+    numbers: &[u8; 256],
     prog: &[u8],
     flags: Flags,
     ids: &[u32],
@@ -49,9 +49,11 @@ fn decide_in(
     locations: usize,
     fields: usize,
     targets: usize,
+    kinds: usize,
+    makers: usize,
 ) -> Verdict
-    requires { ⌜ IsTable kinds ⌝ }
-    ensures { λ r. ⌜ Decided (sized (filterOf prog ids addresses) flags page locations fields targets) r ⌝ }
+    requires { ⌜ IsTable numbers ⌝ }
+    ensures { λ r. ⌜ Decided (sized (filterOf prog ids addresses) flags page locations fields targets kinds makers) r ⌝ }
 {
     match sizes::sizes(
         prog.len(),
@@ -59,6 +61,8 @@ fn decide_in(
         locations,
         fields,
         targets,
+        kinds,
+        makers,
         ids,
         addresses.len(),
     ) {
@@ -67,12 +71,12 @@ fn decide_in(
             let start = Position {
                 offset: prologue_size(flags),
             };
-            judge::judge(kinds, prog, ids, addresses, page, start)
+            judge::judge(numbers, prog, ids, addresses, page, start)
         }
     }
 }
 
-// The four numbers are the lengths of the code buffer and of the tables.
+// The six numbers behind the helpers are the lengths of the code buffer and of the tables.
 pub fn decide(
     prog: &[u8],
     flags: Flags,
@@ -82,12 +86,14 @@ pub fn decide(
     locations: usize,
     fields: usize,
     targets: usize,
+    kinds: usize,
+    makers: usize,
 ) -> Verdict
-    ensures { λ r. ⌜ Decided (sized (filterOf prog ids addresses) flags page locations fields targets) r ⌝ }
+    ensures { λ r. ⌜ Decided (sized (filterOf prog ids addresses) flags page locations fields targets kinds makers) r ⌝ }
 {
-    let kinds = kind::KINDS;
+    let numbers = kind::KINDS;
     decide_in(
-        &kinds,
+        &numbers,
         prog,
         flags,
         ids,
@@ -96,12 +102,14 @@ pub fn decide(
         locations,
         fields,
         targets,
+        kinds,
+        makers,
     )
 }
 
 // The prologue and the slots of a program that is accepted.
 fn write_begin(
-    kinds: &[u8; 256],
+    numbers: &[u8; 256],
     prog: &[u8],
     flags: Flags,
     ids: &[u32],
@@ -110,15 +118,20 @@ fn write_begin(
     locations: &mut [u32],
     fields: &mut [u32],
     targets: &mut [u32],
+    kinds: &mut [u32],
+    makers: &mut [u32],
 ) -> Emission
-    requires { ⌜ IsTable kinds ⌝ }
-    requires { ⌜ Decided (inputs prog flags ids addresses code locations fields targets) Good ⌝ }
-    ensures { λ r. ⌜ Begun (asked prog flags ids addresses code locations fields targets) code locations fields targets r ⌝ }
+    requires { ⌜ IsTable numbers ⌝ }
+    requires { ⌜ Decided (inputs prog flags ids addresses code locations fields targets kinds makers) Good ⌝ }
+    ensures { λ r. ⌜ Begun (asked prog flags ids addresses code locations fields targets kinds makers) code locations fields targets kinds makers r ⌝ }
 {
     let page = code.len();
-    let entered = jit_writing::frame::emit_prologue(code, fields, targets, flags);
+    let n = Slot {
+        number: prog.len() / 8,
+    };
+    let entered = jit_writing::frame::emit_prologue(code, fields, targets, kinds, makers, flags, n);
     jit_writing::write::write_slots(
-        kinds,
+        numbers,
         prog,
         ids,
         addresses,
@@ -128,6 +141,8 @@ fn write_begin(
         locations,
         fields,
         targets,
+        kinds,
+        makers,
     )
 }
 
@@ -152,7 +167,7 @@ fn write_end(
 
 // The page and the tables of a program that is accepted.
 pub fn write_page(
-    kinds: &[u8; 256],
+    numbers: &[u8; 256],
     prog: &[u8],
     flags: Flags,
     ids: &[u32],
@@ -161,16 +176,19 @@ pub fn write_page(
     locations: &mut [u32],
     fields: &mut [u32],
     targets: &mut [u32],
+    kinds: &mut [u32],
+    makers: &mut [u32],
 ) -> Answer
-    requires { ⌜ IsTable kinds ⌝ }
-    requires { ⌜ Decided (inputs prog flags ids addresses code locations fields targets) Good ⌝ }
-    ensures { λ r. ⌜ Translated (asked prog flags ids addresses code locations fields targets) code locations fields targets r ⌝ }
+    requires { ⌜ IsTable numbers ⌝ }
+    requires { ⌜ Decided (inputs prog flags ids addresses code locations fields targets kinds makers) Good ⌝ }
+    ensures { λ r. ⌜ Translated (asked prog flags ids addresses code locations fields targets kinds makers) code locations fields targets r ⌝ }
+    ensures { λ _. ⌜ Named (asked prog flags ids addresses code locations fields targets kinds makers) kinds makers ⌝ }
 {
     let n = Slot {
         number: prog.len() / 8,
     };
     let e = write_begin(
-        kinds,
+        numbers,
         prog,
         flags,
         ids,
@@ -179,6 +197,8 @@ pub fn write_page(
         locations,
         fields,
         targets,
+        kinds,
+        makers,
     );
     write_end(code, locations, fields, targets, n, e.at, e.jumps);
     let length = e.at.offset + jit::EPILOGUE_SIZE;
@@ -188,8 +208,9 @@ pub fn write_page(
     }
 }
 
-// The answer and the contents at exit of what is lent are what `translationOf` gives on the contents at entry (specs/Translated.antt): accepted,
-// the code, locations, fields and targets at the head, everything behind as it was; refused, everything as it was.
+// The answer and the contents at exit of what is lent are what `translationOf` gives on the contents at entry, and of the kinds and makers what
+// `kindsIn` and `makersIn` do (specs/Translated.antt): accepted, the code and the tables' entries at the head, everything behind as it was;
+// refused, everything as it was.
 pub fn translate(
     prog: &[u8],
     flags: Flags,
@@ -199,12 +220,15 @@ pub fn translate(
     locations: &mut [u32],
     fields: &mut [u32],
     targets: &mut [u32],
+    kinds: &mut [u32],
+    makers: &mut [u32],
 ) -> Answer
-    ensures { λ r. ⌜ Translated (asked prog flags ids addresses code locations fields targets) code locations fields targets r ⌝ }
+    ensures { λ r. ⌜ Translated (asked prog flags ids addresses code locations fields targets kinds makers) code locations fields targets r ⌝ }
+    ensures { λ _. ⌜ Named (asked prog flags ids addresses code locations fields targets kinds makers) kinds makers ⌝ }
 {
-    let kinds = kind::KINDS;
+    let numbers = kind::KINDS;
     match decide_in(
-        &kinds,
+        &numbers,
         prog,
         flags,
         ids,
@@ -213,10 +237,12 @@ pub fn translate(
         locations.len(),
         fields.len(),
         targets.len(),
+        kinds.len(),
+        makers.len(),
     ) {
         Verdict::Not(refusal) => Answer::Refused(refusal),
         Verdict::Good => write_page(
-            &kinds,
+            &numbers,
             prog,
             flags,
             ids,
@@ -225,6 +251,8 @@ pub fn translate(
             locations,
             fields,
             targets,
+            kinds,
+            makers,
         ),
     }
 }

@@ -12,6 +12,7 @@ use Rattle.jit.specs.Passes.{walked}
 use Rattle.jit.specs.MulDivMod.{Code}
 use Rattle.jit.specs.Translation.{Filter, slotsOf}
 use Rattle.jit_recording.specs.Emits as E
+use Rattle.jit_recording.specs.Lent.{tables, lent, left}
 use Rattle.jit_recording.specs.declared.emission.Emission.{Emission}
 use Rattle.jit_walk.specs.Numbered as N
 use Rattle.jit_writing.specs.Writes as W
@@ -29,17 +30,17 @@ abbrev pub Put : (locations : Lent) → (slot r : Slot) → List ℕ → Type 0
 Put locations slot r ys = E.Put (now (locations .entry)) (now (locations .exit)) (slot .number) (r .number) ys
 
 -- the filter is accepted, and there is room for its slots' code from `start` on, for an entry of each, and for its jumps
-abbrev pub Fitting : Filter → (page : ℕ) → (start : Position) → (code locations fields targets : Slice) → Type 0
-Fitting filter page start code locations fields targets =
+abbrev pub Fitting : Filter → (page : ℕ) → (start : Position) → (code locations fields targets kinds makers : Slice) → Type 0
+Fitting filter page start code locations fields targets kinds makers =
     W.Fitting
     (walked filter page start) page (start .offset)
-    (now code) (now locations) (now fields) (now targets) (slotsOf (filter .program))
+    (now code) (now locations) (tables fields targets kinds makers) (slotsOf (filter .program))
 
 -- .. and these are written, up to r
-abbrev pub Writes : Filter → (page : ℕ) → (start : Position) → (code locations fields targets : Lent) → (r : Emission) → Type 0
-Writes filter page start code locations fields targets r =
+abbrev pub Writes : Filter → (page : ℕ) → (start : Position) → (code locations fields targets kinds makers : Lent) → (r : Emission) → Type 0
+Writes filter page start code locations fields targets kinds makers r =
     W.Writes
     (walked filter page start) (start .offset)
     (now (code .entry)) (now (code .exit)) (now (locations .entry)) (now (locations .exit))
-    (now (fields .entry)) (now (fields .exit)) (now (targets .entry)) (now (targets .exit))
+    (lent fields targets kinds makers) (left fields targets kinds makers)
     (r .at .offset) (r .jumps)

@@ -1,6 +1,6 @@
 // The frame round the slots: the prologue, of three kinds, and the epilogue.
 ghost use mathlib.Core.List.{_++_};
-ghost use Prim.Native.Nat.{_+_, _≤_};
+ghost use Prim.Native.Nat.{_+_, _≤_, _<_, _^_};
 ghost use lib.ListN.{length};
 ghost use Rattle.x86.specs.Fill.{blanks};
 ghost use Rattle.x86_emit.specs.Lent.{FitAll, Stores, Wrote};
@@ -9,6 +9,7 @@ ghost use Rattle.jit_recording.specs.Lent.{Emits, Room, nothing};
 ghost use Rattle.jit.specs.Room.{epilogueSize};
 use base::Position;
 use base::Size;
+use base::Slot;
 use base::Width;
 use ebpf::constants::STACK_SIZE;
 use jit::Flags;
@@ -75,9 +76,17 @@ fn emit_argument(code: &mut [u8], at: Position, flags: Flags) -> Position
 }
 
 // r10, the stack, and a call over the jump to the exit: the program's last return comes back to that jump.
-fn emit_enter(code: &mut [u8], fields: &mut [u32], targets: &mut [u32], e: Emission) -> Emission
-    requires { ⌜ Room code fields targets e enter ⌝ }
-    ensures { λ r. ⌜ Emits code fields targets e r enter ⌝ }
+fn emit_enter(
+    code: &mut [u8],
+    fields: &mut [u32],
+    targets: &mut [u32],
+    kinds: &mut [u32],
+    makers: &mut [u32],
+    e: Emission,
+    n: Slot,
+) -> Emission
+    requires { ⌜ Room code fields targets kinds makers e enter × (n .number < 2 ^ 16) ⌝ }
+    ensures { λ r. ⌜ Emits code fields targets kinds makers e r n enter ⌝ }
 {
     let based = x86_emit::alu::emit_alu(code, e.at, Width::W64, MOV, RSP, RBP);
     let stacked = x86_emit::alu::emit_alu_imm32(
@@ -91,17 +100,31 @@ fn emit_enter(code: &mut [u8], fields: &mut [u32], targets: &mut [u32], e: Emiss
     );
     let called = x86_emit::jump::emit_call(code, stacked, JMP_SIZE);
     let jumped = x86_emit::jump::emit_jmp(code, called, 0);
-    emission::record_jump(fields, targets, jumped, e.jumps, jit::ANCHOR)
+    emission::record_jump(
+        fields,
+        targets,
+        kinds,
+        makers,
+        jumped,
+        e.jumps,
+        jit::ANCHOR,
+        jit::PLAIN,
+        n,
+    )
 }
 
+// The jump is made by no slot: its maker is n, the number behind the last.
 pub fn emit_prologue(
     code: &mut [u8],
     fields: &mut [u32],
     targets: &mut [u32],
+    kinds: &mut [u32],
+    makers: &mut [u32],
     flags: Flags,
+    n: Slot,
 ) -> Emission
-    requires { ⌜ Room code fields targets nothing (prologue flags) ⌝ }
-    ensures { λ r. ⌜ Emits code fields targets nothing r (prologue flags) ⌝ }
+    requires { ⌜ Room code fields targets kinds makers nothing (prologue flags) × (n .number < 2 ^ 16) ⌝ }
+    ensures { λ r. ⌜ Emits code fields targets kinds makers nothing r n (prologue flags) ⌝ }
 {
     let saved = emit_saves(code, Position { offset: 0 });
     let argued = emit_argument(code, saved, flags);
@@ -109,10 +132,13 @@ pub fn emit_prologue(
         code,
         fields,
         targets,
+        kinds,
+        makers,
         Emission {
             at: argued,
             jumps: 0,
         },
+        n,
     )
 }
 

@@ -91,6 +91,8 @@ pub fn emit_slot(
     code: &mut [u8],
     fields: &mut [u32],
     targets: &mut [u32],
+    kinds: &mut [u32],
+    makers: &mut [u32],
     e: Emission,
     number: u8,
     slot: Slot,
@@ -100,8 +102,8 @@ pub fn emit_slot(
     addresses: &[u64],
 ) -> Emission
     requires { ⌜ SlotRead prog slot opc number × ((slot .number < 2 ^ 16) × Paired ids addresses) ⌝ }
-    requires { ⌜ Room code fields targets e (codeAt (filterIn prog ids addresses) slot) ⌝ }
-    ensures { λ r. ⌜ Emits code fields targets e r (codeAt (filterOf prog ids addresses) slot) ⌝ }
+    requires { ⌜ Room code fields targets kinds makers e (codeAt (filterIn prog ids addresses) slot) ⌝ }
+    ensures { λ r. ⌜ Emits code fields targets kinds makers e r slot (codeAt (filterOf prog ids addresses) slot) ⌝ }
 {
     match number {
         kind::KIND_LD_DW_IMM => {
@@ -113,6 +115,8 @@ pub fn emit_slot(
             code,
             fields,
             targets,
+            kinds,
+            makers,
             e,
             mul_of(opc),
             width_of(opc),
@@ -120,11 +124,22 @@ pub fn emit_slot(
             slot,
             insn_at(prog, slot),
         ),
-        kind::KIND_JA => jump::emit_ja(code, fields, targets, e, slot, insn_at(prog, slot)),
+        kind::KIND_JA => jump::emit_ja(
+            code,
+            fields,
+            targets,
+            kinds,
+            makers,
+            e,
+            slot,
+            insn_at(prog, slot),
+        ),
         kind::KIND_JUMP => jump::emit_jump(
             code,
             fields,
             targets,
+            kinds,
+            makers,
             e,
             width_of(opc),
             source_of(opc),
@@ -134,7 +149,7 @@ pub fn emit_slot(
         kind::KIND_CALL => {
             let i = insn_at(prog, slot);
             let value = value_in(operand::call_operand(ids, addresses, slot, i));
-            jump::emit_call(code, fields, targets, e, slot, i, value)
+            jump::emit_call(code, fields, targets, kinds, makers, e, slot, i, value)
         }
         _ => emission::onward(e, emit_plain(code, e.at, number, opc, prog, slot)),
     }

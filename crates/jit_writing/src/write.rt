@@ -31,7 +31,7 @@ fn put_slot(locations: &mut [u32], slot: Slot, at: Position, number: u8) -> Slot
 
 // The slots of a program that is accepted, the first one's code at `start`. The answer is where they end, and how many jumps are listed.
 pub fn write_slots(
-    kinds: &[u8; 256],
+    numbers: &[u8; 256],
     prog: &[u8],
     ids: &[u32],
     addresses: &[u64],
@@ -41,10 +41,12 @@ pub fn write_slots(
     locations: &mut [u32],
     fields: &mut [u32],
     targets: &mut [u32],
+    kinds: &mut [u32],
+    makers: &mut [u32],
 ) -> Emission
-    requires { ⌜ IsTable kinds × WithinLimits prog ids addresses page start ⌝ }
-    requires { ⌜ Fitting (filterIn prog ids addresses) page start code locations fields targets ⌝ }
-    ensures { λ r. ⌜ Writes (filterOf prog ids addresses) page start code locations fields targets r ⌝ }
+    requires { ⌜ IsTable numbers × WithinLimits prog ids addresses page start ⌝ }
+    requires { ⌜ Fitting (filterIn prog ids addresses) page start code locations fields targets kinds makers ⌝ }
+    ensures { λ r. ⌜ Writes (filterOf prog ids addresses) page start code locations fields targets kinds makers r ⌝ }
 {
     let mut next = Slot { number: 0 };
     let mut e = Emission {
@@ -53,12 +55,14 @@ pub fn write_slots(
     };
     while INSN_SIZE * next.number < prog.len() {
         let opc = prog[INSN_SIZE * next.number];
-        let number = kind::number_in(kinds, opc);
+        let number = kind::number_in(numbers, opc);
         let at = e.at;
         e = slot::emit_slot(
             code,
             fields,
             targets,
+            kinds,
+            makers,
             e,
             number,
             next,

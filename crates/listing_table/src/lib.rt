@@ -1,7 +1,7 @@
 // What becomes of a program: its slots, the machine instructions of each as the proved reader reads them from the translated bytes, and
 // where it jumps; or its slots up to the one that is refused, and the reason. All on standard output, but for the reason, which goes where
 // the caller says.
-ghost use Rattle.jit_translate.specs.Lent.{asked, Translated};
+ghost use Rattle.jit_translate.specs.Lent.{asked, Translated, Named};
 
 mod table;
 
@@ -37,6 +37,26 @@ fn exit_of(length: usize) -> usize {
     length - EPILOGUE_SIZE
 }
 
+fn list_accepted(
+    prog: &[u8],
+    page: &[u8],
+    locations: &[u32],
+    targets: &[u32],
+    kinds: &[u32],
+    makers: &[u32],
+    length: usize,
+    jumps: usize,
+) {
+    let totals = Totals {
+        slots: prog.len() / 8,
+        length: length,
+        jumps: jumps,
+        page: page.len(),
+        exit: exit_of(length),
+    };
+    table::list_page(prog, page, locations, targets, kinds, makers, totals);
+}
+
 // The program, translated into what is lent, and the table of it. The answer, and what is left in what is lent, are the translator's; a
 // refusal's sentence goes to the descriptor `reason`.
 pub fn list_filter(
@@ -48,9 +68,12 @@ pub fn list_filter(
     locations: &mut [u32],
     fields: &mut [u32],
     targets: &mut [u32],
+    kinds: &mut [u32],
+    makers: &mut [u32],
     reason: i32,
 ) -> Answer
-    ensures { λ r. ⌜ Translated (asked prog flags ids addresses page locations fields targets) page locations fields targets r ⌝ }
+    ensures { λ r. ⌜ Translated (asked prog flags ids addresses page locations fields targets kinds makers) page locations fields targets r ⌝ }
+    ensures { λ _. ⌜ Named (asked prog flags ids addresses page locations fields targets kinds makers) kinds makers ⌝ }
 {
     let answer = translate(
         prog,
@@ -61,18 +84,13 @@ pub fn list_filter(
         locations,
         fields,
         targets,
+        kinds,
+        makers,
     );
     match answer {
         Answer::Refused(refusal) => list_refused(prog, refusal, reason),
         Answer::Accepted { length, jumps } => {
-            let totals = Totals {
-                slots: prog.len() / 8,
-                length: length,
-                jumps: jumps,
-                page: page.len(),
-                exit: exit_of(length),
-            };
-            table::list_page(prog, page, locations, fields, targets, totals);
+            list_accepted(prog, page, locations, targets, kinds, makers, length, jumps)
         }
     }
     answer

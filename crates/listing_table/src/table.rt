@@ -2,6 +2,9 @@
 ghost use mathlib.Core.Path.{_≡_};
 use ebpf_text::put_slot;
 use jit::ANCHOR;
+use jit::CONDITIONAL;
+use jit::LOCAL_CALL;
+use jit::PLAIN;
 use listing_lines::BYTECODE;
 use listing_lines::LINE;
 use listing_lines::finish;
@@ -115,15 +118,12 @@ fn end_of(locations: &[u32], totals: Totals, slot: usize) -> usize {
     totals.exit
 }
 
-// The first jump whose field lies between two places, or `jumps`.
-fn jump_between(fields: &[u32], jumps: usize, from: usize, to: usize) -> usize {
+// The first jump of a maker, or `jumps` where it has none.
+fn jump_of(makers: &[u32], jumps: usize, maker: usize) -> usize {
     let mut j = 0;
     while j < jumps {
-        let field = entry(fields, j);
-        if from <= field {
-            if field < to {
-                return j;
-            }
+        if entry(makers, j) == maker {
+            return j;
         }
         j += 1;
     }
@@ -150,23 +150,38 @@ fn put_destination(
     )
 }
 
-// Where the jump goes that is listed between two places, if there is one.
+// The translator writes no fourth kind; if it did, the line would not call it one of the three.
+fn put_kind(line: &mut [u8], at: usize, kind: usize) -> usize {
+    if kind == wide(CONDITIONAL) {
+        return put_text(line, at, b", conditional");
+    }
+    if kind == wide(PLAIN) {
+        return put_text(line, at, b", plain");
+    }
+    if kind == wide(LOCAL_CALL) {
+        return put_text(line, at, b", local call");
+    }
+    put_text(line, at, b", of no known kind")
+}
+
+// Where the jump of a maker goes, and its kind, if it has one.
 fn put_jump(
     line: &mut [u8],
     at: usize,
     locations: &[u32],
-    fields: &[u32],
     targets: &[u32],
+    kinds: &[u32],
+    makers: &[u32],
     totals: Totals,
-    from: usize,
-    to: usize,
+    maker: usize,
 ) -> usize {
     let jumps = totals.jumps;
-    let j = jump_between(fields, jumps, from, to);
+    let j = jump_of(makers, jumps, maker);
     if jumps <= j {
         return at;
     }
-    put_destination(line, at, locations, entry(targets, j), totals.exit)
+    let next = put_destination(line, at, locations, entry(targets, j), totals.exit);
+    put_kind(line, next, entry(kinds, j))
 }
 
 fn put_slot_line(line: &mut [u8], prog: &[u8], slot: usize, location: usize) -> usize {
@@ -189,8 +204,9 @@ fn list_slot(
     prog: &[u8],
     code: &[u8],
     locations: &[u32],
-    fields: &[u32],
     targets: &[u32],
+    kinds: &[u32],
+    makers: &[u32],
     totals: Totals,
     slot: usize,
 ) {
@@ -201,17 +217,46 @@ fn list_slot(
     }
     let to = end_of(locations, totals, slot);
     let next = put_slot_line(line, prog, slot, from);
-    let next = put_jump(line, next, locations, fields, targets, totals, from, to);
+    let next = put_jump(line, next, locations, targets, kinds, makers, totals, slot);
     finish(line, next);
     list_code(line, code, from, to);
 }
 
-fn list_frame(line: &mut [u8], name: &[u8], code: &[u8], from: usize, to: usize) {
+fn first_location(locations: &[u32], totals: Totals) -> usize {
+    if totals.slots == 0 {
+        return totals.exit;
+    }
+    entry(locations, 0)
+}
+
+fn put_frame_line(line: &mut [u8], name: &[u8], location: usize) -> usize {
     let next = put_text(line, 0, name);
     let next = put_padding(line, next, AT);
-    let next = put_form(line, next, b"at 0x$", &[from as u64]);
+    put_form(line, next, b"at 0x$", &[location as u64])
+}
+
+// Its jump is no slot's: the maker is the number behind the last.
+fn list_prologue(
+    line: &mut [u8],
+    code: &[u8],
+    locations: &[u32],
+    targets: &[u32],
+    kinds: &[u32],
+    makers: &[u32],
+    totals: Totals,
+) {
+    let to = first_location(locations, totals);
+    let slots = totals.slots;
+    let next = put_frame_line(line, b"prologue", 0);
+    let next = put_jump(line, next, locations, targets, kinds, makers, totals, slots);
     finish(line, next);
-    list_code(line, code, from, to);
+    list_code(line, code, 0, to);
+}
+
+fn list_epilogue(line: &mut [u8], code: &[u8], totals: Totals) {
+    let next = put_frame_line(line, b"epilogue", totals.exit);
+    finish(line, next);
+    list_code(line, code, totals.exit, totals.length);
 }
 
 fn list_totals(line: &mut [u8], totals: Totals) {
@@ -234,8 +279,9 @@ fn list_all_slots(
     prog: &[u8],
     code: &[u8],
     locations: &[u32],
-    fields: &[u32],
     targets: &[u32],
+    kinds: &[u32],
+    makers: &[u32],
     totals: Totals,
 ) -> usize
     ensures { λ r. ⌜ r ≡ totals .slots ⌝ }
@@ -243,17 +289,20 @@ fn list_all_slots(
     let slots = totals.slots;
     let mut slot = 0;
     while slot < slots {
-        list_slot(line, prog, code, locations, fields, targets, totals, slot);
+        list_slot(
+            line,
+            prog,
+            code,
+            locations,
+            targets,
+            kinds,
+            makers,
+            totals,
+            slot,
+        );
         slot += 1;
     }
     slot
-}
-
-fn first_location(locations: &[u32], totals: Totals) -> usize {
-    if totals.slots == 0 {
-        return totals.exit;
-    }
-    entry(locations, 0)
 }
 
 // The whole page of an accepted program; the answer is how many slots are listed.
@@ -261,18 +310,26 @@ pub fn list_page(
     prog: &[u8],
     code: &[u8],
     locations: &[u32],
-    fields: &[u32],
     targets: &[u32],
+    kinds: &[u32],
+    makers: &[u32],
     totals: Totals,
 ) -> usize
     ensures { λ r. ⌜ r ≡ totals .slots ⌝ }
 {
     let mut line = [0u8; LINE];
-    let exit = totals.exit;
-    let first = first_location(locations, totals);
-    list_frame(&mut line, b"prologue", code, 0, first);
-    let listed = list_all_slots(&mut line, prog, code, locations, fields, targets, totals);
-    list_frame(&mut line, b"epilogue", code, exit, totals.length);
+    list_prologue(&mut line, code, locations, targets, kinds, makers, totals);
+    let listed = list_all_slots(
+        &mut line,
+        prog,
+        code,
+        locations,
+        targets,
+        kinds,
+        makers,
+        totals,
+    );
+    list_epilogue(&mut line, code, totals);
     list_totals(&mut line, totals);
     listed
 }

@@ -13,7 +13,7 @@ use Rattle.jit_safety.specs.Demand3.{Given, Begins, Demand3}
 use Rattle.jit_safety.proofs.Useless.{division-raises}
 use Rattle.jit_translate.specs.declared.translate.Answer.{Answer}
 use Rattle.jit_translate.specs.declared.translate.Answer.the-variants.{Accepted, Refused}
-use Rattle.jit_theorem.specs.Theorem.{Buffers, Translates, Promise}
+use Rattle.jit_theorem.specs.Theorem.{Buffers, Translates, Names, Promise}
 use Rattle.jit_theorem.proofs.Proved.{theorem}
 use Rattle.ndakoleem.specs.declared.Translation.{Translation}
 use Rattle.ndakoleem.specs.Exported.{numberIn, slotIn, lengthIn, jumpsIn, Exported}
@@ -53,23 +53,23 @@ numbered (refusal.BadTarget s) = omega arith
 -- So what has it is accepted, and demand 3 holds of as much as the struct says.
 pub safe : {x : Inputs} {before after : Buffers} {r : Translation} → Exported x before after r → r .number ≡ 0
     → Demand3 x (take (r .length) (after .code)) (take (slotsOf (x .filter .program) + 1) (after .locations))
-    (take (r .jumps) (after .fields)) (take (r .jumps) (after .targets))
+    (take (r .jumps) (after .fields)) (take (r .jumps) (after .targets)) (take (r .jumps) (after .kinds)) (take (r .jumps) (after .makers))
 safe {x} {before} {after} h z = rw (h .length-is, h .jumps-are) (by (h .answer) (h .promise) (sym (h .number-is) ∙ z))
   where
     by : (a : Answer) → Promise x before after a → numberIn a ≡ 0
         → Demand3 x (take (lengthIn a) (after .code)) (take (slotsOf (x .filter .program) + 1) (after .locations))
-        (take (jumpsIn a) (after .fields)) (take (jumpsIn a) (after .targets))
+        (take (jumpsIn a) (after .fields)) (take (jumpsIn a) (after .targets)) (take (jumpsIn a) (after .kinds)) (take (jumpsIn a) (after .makers))
     by (Accepted l j) p e = p .safe l j refl
     by (Refused q) p e = absurd (omega (arith, numbered q, e))
 
 -- What that is there for: no page that is answered with number 0 raises #DE, whatever it is run on.
 pub never-faults : {x : Inputs} {before after : Buffers} {r : Translation} → Exported x before after r → r .number ≡ 0
     → (us : List Input) (s : State) → Begins s → run (take (r .length) (after .code)) us s ≡ divided → ⊥
-never-faults h z = division-raises _ _ _ _ _ (safe h z)
+never-faults h z = division-raises _ _ _ _ _ _ _ (safe h z)
 
 -- The struct of an answer's four numbers meets the contract.
 pub exported : (x : Inputs) → Given x → {before after : Buffers} {a : Answer} {number slot bytes jumps : ℕ} → Translates x before after a
-    → number ≡ numberIn a → slot ≡ slotIn a → bytes ≡ lengthIn a → jumps ≡ jumpsIn a
+    → Names x before after → number ≡ numberIn a → slot ≡ slotIn a → bytes ≡ lengthIn a → jumps ≡ jumpsIn a
     → Exported x before after (record { number = number; slot = slot; length = bytes; jumps = jumps })
-exported x given {before} {after} {a} h n s l j =
-    record { answer = a; promise = theorem .kept x given before after a h; number-is = n; slot-is = s; length-is = l; jumps-are = j }
+exported x given {before} {after} {a} h names n s l j =
+    record { answer = a; promise = theorem .kept x given before after a h names; number-is = n; slot-is = s; length-is = l; jumps-are = j }

@@ -1,4 +1,4 @@
--- The contract of `ndakoleem_translate`, of its parameters by their names (base/specs/Lent.antt).
+-- The contract of `ndakoleem_translate_2`, of its parameters by their names (base/specs/Lent.antt).
 use mathlib.Core.Bool.{Bool}
 use Rattle.base.specs.Lent.{Lent}
 use Rattle.jit.specs.declared.Flags.{Flags}
@@ -10,7 +10,8 @@ use Rattle.ndakoleem.specs.Exported as E
 abbrev pub flagged : (mbuff update : Bool) → Flags
 flagged mbuff update = record { «use_mbuff» = mbuff; «update_data_ptr» = update }
 
-abbrev pub Exported : Inputs → (code locations fields targets : Lent) → Translation → Type 0
-Exported x code locations fields targets r =
+abbrev pub Exported : Inputs → (code locations fields targets kinds makers : Lent) → Translation → Type 0
+Exported x code locations fields targets kinds makers r =
     E.Exported x
-    (buffers (code .entry) (locations .entry) (fields .entry) (targets .entry)) (buffers (code .exit) (locations .exit) (fields .exit) (targets .exit)) r
+    (buffers (code .entry) (locations .entry) (fields .entry) (targets .entry) (kinds .entry) (makers .entry))
+    (buffers (code .exit) (locations .exit) (fields .exit) (targets .exit) (kinds .exit) (makers .exit)) r

@@ -16,9 +16,10 @@ pub struct Translation {
     pub jumps: usize,
 }
 
-// The four numbers of `translate`'s answer; what is lent is left as `translate` leaves it (specs/Exported.antt).
+// The four numbers of `translate`'s answer; what is lent is left as `translate` leaves it (specs/Exported.antt). The number in the name rises
+// with every change of the parameters: a caller that was built for others does not link.
 #[no_mangle]
-pub extern "C" fn ndakoleem_translate(
+pub extern "C" fn ndakoleem_translate_2(
     program: &[u8],
     use_mbuff: bool,
     update_data_ptr: bool,
@@ -28,9 +29,11 @@ pub extern "C" fn ndakoleem_translate(
     locations: &mut [u32],
     fields: &mut [u32],
     targets: &mut [u32],
+    kinds: &mut [u32],
+    makers: &mut [u32],
 ) -> Translation
-    ensures { λ r. ⌜ Exported (asked program (flagged «use_mbuff» «update_data_ptr») ids addresses code locations fields targets)
-        code locations fields targets r ⌝ }
+    ensures { λ r. ⌜ Exported (asked program (flagged «use_mbuff» «update_data_ptr») ids addresses code locations fields targets kinds makers)
+        code locations fields targets kinds makers r ⌝ }
 {
     let flags = Flags {
         use_mbuff: use_mbuff,
@@ -45,6 +48,8 @@ pub extern "C" fn ndakoleem_translate(
         locations,
         fields,
         targets,
+        kinds,
+        makers,
     ) {
         Answer::Refused(refusal) => Translation {
             number: refusals::number_of(refusal),

@@ -85,12 +85,12 @@ fn answer_next(
     end: usize,
     output: &mut [u8],
     at: usize,
-    ids: &mut [u32],
-    addresses: &mut [u64],
     code: &mut [u8],
     locations: &mut [u32],
     fields: &mut [u32],
     targets: &mut [u32],
+    kinds: &mut [u32],
+    makers: &mut [u32],
 ) -> Turn
     requires { ⌜ (start ≤ end) × ((end ≤ length (now input)) × (at ≤ length (now output))) ⌝ }
     ensures { λ r. ⌜ (r .start ≤ r .end) × ((r .end ≤ length (now (input .exit))) × (r .at ≤ length (now (output .exit)))) ⌝ }
@@ -105,12 +105,12 @@ fn answer_next(
         input,
         start,
         end,
-        ids,
-        addresses,
         code,
         locations,
         fields,
         targets,
+        kinds,
+        makers,
         &mut output[from..],
     );
     let wrong = done.problem;
@@ -131,12 +131,12 @@ fn answer_next(
 fn answer_all(
     input: &mut [u8],
     output: &mut [u8],
-    ids: &mut [u32],
-    addresses: &mut [u64],
     code: &mut [u8],
     locations: &mut [u32],
     fields: &mut [u32],
     targets: &mut [u32],
+    kinds: &mut [u32],
+    makers: &mut [u32],
 ) {
     let mut start = 0;
     let mut end = 0;
@@ -149,12 +149,12 @@ fn answer_all(
             end,
             output,
             at,
-            ids,
-            addresses,
             code,
             locations,
             fields,
             targets,
+            kinds,
+            makers,
         );
         if !turn.goes_on {
             break;
@@ -168,21 +168,28 @@ fn answer_all(
 fn main() {
     let mut input = [0u8; INPUT];
     let mut output = [0u8; OUTPUT];
-    let mut ids = [0u32; limits::HELPERS];
-    let mut addresses = [0u64; limits::HELPERS];
     let mut code = [0u8; limits::PAGE];
     let mut locations = [0u32; limits::TABLE];
     let mut fields = [0u32; limits::TABLE];
     let mut targets = [0u32; limits::TABLE];
-    marks::mark_lent(&mut code, &mut locations, &mut fields, &mut targets);
-    answer_all(
-        &mut input,
-        &mut output,
-        &mut ids,
-        &mut addresses,
+    let mut kinds = [0u32; limits::TABLE];
+    let mut makers = [0u32; limits::TABLE];
+    marks::mark_lent(
         &mut code,
         &mut locations,
         &mut fields,
         &mut targets,
+        &mut kinds,
+        &mut makers,
+    );
+    answer_all(
+        &mut input,
+        &mut output,
+        &mut code,
+        &mut locations,
+        &mut fields,
+        &mut targets,
+        &mut kinds,
+        &mut makers,
     );
 }

@@ -127,6 +127,8 @@ fn list_lent(program: &[u8], options: Options, ids: &[u32], addresses: &[u64])
     let mut locations = [0u32; TABLE];
     let mut fields = [0u32; TABLE];
     let mut targets = [0u32; TABLE];
+    let mut kinds = [0u32; TABLE];
+    let mut makers = [0u32; TABLE];
     list_filter(
         program,
         flags,
@@ -136,6 +138,8 @@ fn list_lent(program: &[u8], options: Options, ids: &[u32], addresses: &[u64])
         &mut locations,
         &mut fields,
         &mut targets,
+        &mut kinds,
+        &mut makers,
         STDERR_FILENO,
     );
 }

@@ -62,6 +62,8 @@ fn show_case(body: &[u8], case: Case, ids: &[u32], addresses: &[u64])
     let mut locations = [0u32; limits::TABLE];
     let mut fields = [0u32; limits::TABLE];
     let mut targets = [0u32; limits::TABLE];
+    let mut kinds = [0u32; limits::TABLE];
+    let mut makers = [0u32; limits::TABLE];
     let flags = Flags {
         use_mbuff: case.use_mbuff,
         update_data_ptr: case.update_data_ptr,
@@ -73,6 +75,8 @@ fn show_case(body: &[u8], case: Case, ids: &[u32], addresses: &[u64])
     let l = least(case.locations, limits::TABLE);
     let f = least(case.fields, limits::TABLE);
     let t = least(case.targets, limits::TABLE);
+    let k = least(case.kinds, limits::TABLE);
+    let m = least(case.makers, limits::TABLE);
     let answer = list_filter(
         &body[program..],
         flags,
@@ -82,6 +86,8 @@ fn show_case(body: &[u8], case: Case, ids: &[u32], addresses: &[u64])
         &mut locations[..l],
         &mut fields[..f],
         &mut targets[..t],
+        &mut kinds[..k],
+        &mut makers[..m],
         STDOUT_FILENO,
     );
     show_answer(answer);

@@ -42,6 +42,8 @@ fn answer(program: &[u8]) {
     let mut locations = [0u32; TABLE];
     let mut fields = [0u32; TABLE];
     let mut targets = [0u32; TABLE];
+    let mut kinds = [0u32; TABLE];
+    let mut makers = [0u32; TABLE];
     let flags = Flags {
         use_mbuff: false,
         update_data_ptr: false,
@@ -57,6 +59,8 @@ fn answer(program: &[u8]) {
         &mut locations,
         &mut fields,
         &mut targets,
+        &mut kinds,
+        &mut makers,
     ) {
         Answer::Refused(refusal) => report(refusal),
         Answer::Accepted { length, jumps: _ } => write_code(&page, length),

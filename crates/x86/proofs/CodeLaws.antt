@@ -6,10 +6,12 @@ use native.Mathlib.Omega.{arith}
 use lib.ListN.{length, length-append}
 use Rattle.code.proofs.Lawful.{Lawful}
 use Rattle.code.proofs.CodeLaws as code
+use Rattle.code.proofs.JumpsLaws as jumps
 pub use Rattle.code.proofs.CodeLaws.{targets-append}
+pub use Rattle.code.proofs.JumpsLaws.{each-append, length-each, made-snoc, length-made}
 use Rattle.x86.specs.Instr.{Instr, Jump}
 use Rattle.x86.specs.Encode.{isa, encode, len, rex, modrm}
-use Rattle.x86.specs.Code.{Dest, mapI, size, targetsOf}
+use Rattle.x86.specs.Code.{Dest, mapI, size, targetsOf, kindsOf}
 use Rattle.x86.specs.Lowered.{lowered, bytes, fieldsOf}
 use Rattle.x86.specs.Fill.{blanks}
 
@@ -53,6 +55,12 @@ blanks-append = code.blanks-append isa
 pub fields-append : (p : ℕ) (a b : List (Instr Dest)) → fieldsOf p (a ++ b) ≡ fieldsOf p a ++ fieldsOf (p + size a) b
 fields-append = code.fields-append isa
 
--- as many fields as targets
+pub kinds-append : (a b : List (Instr Dest)) → kindsOf (a ++ b) ≡ kindsOf a ++ kindsOf b
+kinds-append = jumps.kinds-append isa
+
+-- as many fields, and as many kinds, as targets
 pub length-fields : (p : ℕ) (is : List (Instr Dest)) → length (fieldsOf p is) ≡ length (targetsOf is)
 length-fields = code.length-fields isa
+
+pub length-kinds : (is : List (Instr Dest)) → length (kindsOf is) ≡ length (targetsOf is)
+length-kinds = jumps.length-kinds isa

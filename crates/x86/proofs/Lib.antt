@@ -5,3 +5,4 @@ pub mod FillLaws
 pub mod CodeLaws
 pub mod ReadsLaws
 pub mod WellFormed
+pub mod JumpKinds

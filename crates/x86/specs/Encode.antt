@@ -9,6 +9,7 @@ use lib.ListN.{length}
 use Rattle.base.specs.Pick.{pick}
 use Rattle.code.specs.Instr.{Isa}
 use Rattle.code.specs.Code as code
+use Rattle.code.specs.Jumps.{conditional, plainJump, localCall}
 use Rattle.base.specs.Bytes.{le16, le32, le64}
 use Rattle.base.specs.declared.Width.{Width}
 use Rattle.base.specs.declared.Width.the-variants.{W32, W64}
@@ -180,12 +181,19 @@ jumpOpcode jmp = 0xe9 ∷ []
 jumpOpcode call = 0xe8 ∷ []
 jumpOpcode (jcc c) = 0x0f ∷ (0x80 + condNumber c) ∷ []
 
+-- what a jump's record says of it
+abbrev pub jumpKind : Jump → ℕ
+jumpKind jmp = plainJump
+jumpKind call = localCall
+jumpKind (jcc c) = conditional
+
 -- CALL FF /2, RET C3. The word behind a jump's opcode is its distance.
 abbrev pub isa : Isa Plain Jump
 isa =
     record {
       plain = encodePlain;
       head = jumpOpcode;
+      kind = jumpKind;
       word = λ j distance. distance;
       patch = λ old distance. distance;
       through = λ r. rex 0 0 r ++ (0xff ∷ modrm 3 2 r ∷ []);

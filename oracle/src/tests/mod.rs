@@ -1,7 +1,9 @@
 //! Tests of the oracle itself: the worked programs, the facts known of the Rust,
-//! the order of the refusals, the streams, and the spread of the random cases.
+//! the listed jumps, the order of the refusals, the streams, and the spread of
+//! the random cases.
 
 mod facts;
+mod jumps;
 mod order;
 mod spread;
 mod streams;

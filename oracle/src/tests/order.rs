@@ -8,7 +8,7 @@ use crate::sizes::{
     CODE_MAX, CODE_MIN, EPILOGUE, HELPERS_MAX, PROGRAM_MAX, PROLOGUE, SLOTS_MAX, SLOT_LONGEST,
     TABLE_AMPLE, TABLE_ENOUGH,
 };
-use crate::slots::{plain_case, slot};
+use crate::slots::{plain_case, slot, with_tables};
 use crate::stream::{Answer, Case};
 
 const BAD_REGISTER: [u8; 8] = [MOV64_REG, 11, 0, 0, 0, 0, 0, 0];
@@ -30,31 +30,38 @@ const BAD: [([u8; 8], u8); 6] = [
     (BAD_CALL, 12),
 ];
 
+/// Every set of the causes of 3, 4 and 5 ahead of a bad slot, 4 by way of one
+/// table; each with the number that is told where the page is good.
+fn sets_of_causes(short: usize) -> Vec<(Case, u8)> {
+    let set = |causes: usize| {
+        let program = if causes & 1 != 0 { vec![0xff; PROGRAM_MAX + 1] } else { UNKNOWN.to_vec() };
+        let case = plain_case(&program);
+        let mut lens = [case.slots() as u32 + 1; 5];
+        if causes & 2 != 0 {
+            lens[short] = 1;
+        }
+        let helper_addresses = if causes & 4 != 0 { vec![0] } else { vec![] };
+        let first = [(1, 3), (2, 4), (4, 5)].into_iter().find(|(cause, _)| causes & cause != 0);
+        let number = first.map_or(8, |(_, number)| number);
+        (Case { helper_addresses, ..with_tables(&case, lens) }, number)
+    };
+    (0..8).map(set).collect()
+}
+
 #[test]
 fn frame_refusals_come_in_the_order_of_their_numbers() {
-    // Every set of the causes of 3, 4, 5 and a bad slot, in pages too short,
-    // good and too long.
-    for causes in 0..16 {
-        let mut case = case_of(&[UNKNOWN]);
-        let mut want = [9; 4];
-        if causes & 1 != 0 {
-            let program = vec![0xff; PROGRAM_MAX + 1];
-            case = Case { program, table_lens: [TABLE_ENOUGH; 3], ..case };
-            want[0] = 3;
-        }
-        if causes & 2 != 0 {
-            case.table_lens[causes % 3] = 1;
-            want[1] = 4;
-        }
-        if causes & 4 != 0 {
-            case.helper_addresses = vec![0];
-            want[2] = 5;
-        }
-        let first = want.into_iter().min().expect("four entries");
-        let first = if first == 9 { 8 } else { first };
-        assert_eq!(refused(&case), (first, 0));
+    let told = |case: Case, number| {
+        assert_eq!(refused(&case), (number, 0));
         assert_eq!(refused(&Case { code_len: CODE_MIN - 1, ..case.clone() }), (1, 0));
         assert_eq!(refused(&Case { code_len: CODE_MAX + 1, ..case }), (2, 0));
+    };
+    for short in 0..5 {
+        for (five, number) in sets_of_causes(short) {
+            if short < 3 {
+                told(Case { further_lens: None, ..five.clone() }, number);
+            }
+            told(five, number);
+        }
     }
 }
 
@@ -86,6 +93,36 @@ fn frame_edges() {
         stub.table_lens[table] = 1;
         assert_eq!(refused(&stub), (4, 0));
     }
+}
+
+#[test]
+fn each_of_five_tables_has_a_place_for_every_slot_and_one_more() {
+    let case = case_of(&[EXIT]);
+    let stub = plain_case(&[0x95; 15]);
+    for table in 0..5 {
+        let with = |case: &Case, len| {
+            let mut lens = [2; 5];
+            lens[table] = len;
+            with_tables(case, lens)
+        };
+        for len in [0, 1] {
+            assert_eq!(refused(&with(&case, len)), (4, 0));
+            assert_eq!(refused(&with(&stub, len)), (4, 0));
+        }
+        for len in [2, 3, TABLE_AMPLE + 1, u32::MAX] {
+            accepted(&with(&case, len));
+            assert_eq!(refused(&with(&stub, len)), (6, 1));
+        }
+    }
+    for short in 1..1 << 5 {
+        let lens = [0, 1, 2, 3, 4].map(|table| if short >> table & 1 != 0 { 1 } else { u32::MAX });
+        assert_eq!(refused(&with_tables(&case, lens)), (4, 0));
+    }
+    // No slot, no jump but the prologue's: one entry will do, none will not.
+    let empty = case_of(&[]);
+    accepted(&with_tables(&empty, [1; 5]));
+    assert_eq!(refused(&with_tables(&empty, [1, 1, 1, 0, 1])), (4, 0));
+    assert_eq!(refused(&with_tables(&empty, [1, 1, 1, 1, 0])), (4, 0));
 }
 
 #[test]

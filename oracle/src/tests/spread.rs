@@ -3,7 +3,7 @@
 use crate::ebpf;
 use crate::generate::Generator;
 use crate::judge::Judge;
-use crate::stream::Answer;
+use crate::stream::{Answer, Case};
 
 const SEED: u64 = 9;
 const COUNT: u64 = 20_000;
@@ -40,6 +40,39 @@ fn half_are_accepted_and_every_refusal_has_its_share() {
     assert!((40..=60).contains(&(counts[0] * 100 / COUNT)), "{counts:?}");
     assert!(counts.iter().all(|count| *count >= 50), "{counts:?}");
     assert!(page_ends.iter().all(|count| *count >= 50), "{page_ends:?}");
+}
+
+#[test]
+fn every_second_case_has_five_tables() {
+    let mut generator = Generator::new().expect("a generator");
+    for at in 0..200 {
+        let case = generator.case(SEED, at).expect("a case");
+        assert_eq!(case.further_lens.is_some(), at % 2 == 1);
+        // Nothing else depends on it.
+        let three = generator.of_three_tables(SEED, at).expect("a case");
+        assert_eq!(three, Case { further_lens: None, ..case });
+    }
+}
+
+#[test]
+fn the_two_further_tables_are_short_in_every_way() {
+    let mut generator = Generator::new().expect("a generator");
+    // By which of them is short, and whether one of the others is as well.
+    let mut short = [[0; 2]; 4];
+    let [mut by_one, mut empty, mut ample] = [0; 3];
+    for at in 0..COUNT {
+        let case = generator.of_five_tables(SEED, at).expect("a case");
+        let entries = case.slots() as u32 + 1;
+        let lens = case.further_lens.expect("five tables");
+        let which = (lens[0] < entries) as usize | ((lens[1] < entries) as usize) << 1;
+        let others = case.table_lens.iter().any(|len| *len < entries);
+        short[which][others as usize] += 1;
+        by_one += lens.iter().filter(|len| **len == entries - 1).count();
+        empty += lens.iter().filter(|len| **len == 0).count();
+        ample += lens.iter().filter(|len| **len == u32::MAX).count();
+    }
+    assert!(short.iter().flatten().all(|count| *count >= 3), "{short:?}");
+    assert!([by_one, empty, ample].iter().all(|count| *count >= 100), "{by_one} {empty} {ample}");
 }
 
 #[test]

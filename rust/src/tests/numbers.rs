@@ -4,6 +4,7 @@
 
 extern crate std;
 use std::collections::BTreeMap;
+use std::fmt::Debug;
 use std::format;
 use std::fs::{read_dir, read_to_string};
 use std::string::{String, ToString};
@@ -12,7 +13,7 @@ use std::vec::Vec;
 
 use crate::raw::SENTENCE_ENOUGH;
 use crate::{
-    Reason, CODE_ENOUGH, CODE_LONGEST, CODE_MAX, CODE_MIN, EXIT_TARGET, FRAME_CODE_MAX,
+    JumpKind, Reason, CODE_ENOUGH, CODE_LONGEST, CODE_MAX, CODE_MIN, EXIT_TARGET, FRAME_CODE_MAX,
     HELPERS_MAX, PROGRAM_MAX, SLOTS_MAX, SLOT_CODE_MAX, TABLE_ENOUGH,
 };
 
@@ -97,9 +98,9 @@ fn single(words: &mut Words, known: &Numbers) -> Option<usize> {
 }
 
 /// `CodeTooShort` as C spells it: `CODE_TOO_SHORT`.
-fn in_c(reason: Reason) -> String {
+fn in_c(variant: impl Debug) -> String {
     let mut name = String::new();
-    for letter in format!("{reason:?}").chars() {
+    for letter in format!("{variant:?}").chars() {
         if letter.is_uppercase() && !name.is_empty() {
             name.push('_');
         }
@@ -140,9 +141,13 @@ fn the_header_has_the_same_numbers() {
     for number in 1..=14 {
         says(&in_c(Reason::of(number).expect("a reason")), number as usize);
     }
+    for number in 1..=3 {
+        let kind = in_c(JumpKind::of(number).expect("a kind"));
+        says(&format!("JUMP_{kind}"), number as usize);
+    }
     // No number of the header is left out above.
     let named = header.keys().filter(|name| name.starts_with("NDAKOLEEM_"));
-    assert_eq!(named.count(), 12 + 15);
+    assert_eq!(named.count(), 12 + 15 + 3);
 }
 
 #[test]
@@ -158,6 +163,9 @@ fn the_definitions_have_the_same_numbers() {
         ("longestCode", CODE_LONGEST),
         ("mostHelpers", HELPERS_MAX),
         ("anchor", EXIT_TARGET as usize),
+        ("conditional", JumpKind::Conditional as usize),
+        ("plainJump", JumpKind::Plain as usize),
+        ("localCall", JumpKind::LocalCall as usize),
     ] {
         assert_eq!(limits.get(name), Some(&number), "{name}");
     }

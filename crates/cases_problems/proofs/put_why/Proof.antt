@@ -104,47 +104,65 @@ put-text-requires-11 c κs = search needs
 enum-told-12 : tie.Need-enum-told-12
 enum-told-12 c = search needs
 
+slice-aggregate-put-changed : tie.Need-slice-aggregate-put-changed
+slice-aggregate-put-changed c = search needs
+
+put-changed-requires : tie.Need-put-changed-requires
+put-changed-requires c κs = search needs
+
+enum-told-13 : tie.Need-enum-told-13
+enum-told-13 c = search needs
+
+slice-aggregate-put-changed-2 : tie.Need-slice-aggregate-put-changed-2
+slice-aggregate-put-changed-2 c = search needs
+
+put-changed-requires-2 : tie.Need-put-changed-requires-2
+put-changed-requires-2 c κs = search needs
+
+enum-told-14 : tie.Need-enum-told-14
+enum-told-14 c = search needs
+
+slice-aggregate-put-changed-3 : tie.Need-slice-aggregate-put-changed-3
+slice-aggregate-put-changed-3 c = search needs
+
+put-changed-requires-3 : tie.Need-put-changed-requires-3
+put-changed-requires-3 c κs = search needs
+
+enum-told-15 : tie.Need-enum-told-15
+enum-told-15 c = search needs
+
+slice-aggregate-put-changed-4 : tie.Need-slice-aggregate-put-changed-4
+slice-aggregate-put-changed-4 c = search needs
+
+put-changed-requires-4 : tie.Need-put-changed-requires-4
+put-changed-requires-4 c κs = search needs
+
+enum-told-16 : tie.Need-enum-told-16
+enum-told-16 c = search needs
+
+slice-aggregate-put-changed-5 : tie.Need-slice-aggregate-put-changed-5
+slice-aggregate-put-changed-5 c = search needs
+
+put-changed-requires-5 : tie.Need-put-changed-requires-5
+put-changed-requires-5 c κs = search needs
+
+enum-told-17 : tie.Need-enum-told-17
+enum-told-17 c = search needs
+
+slice-aggregate-put-changed-6 : tie.Need-slice-aggregate-put-changed-6
+slice-aggregate-put-changed-6 c = search needs
+
+put-changed-requires-6 : tie.Need-put-changed-requires-6
+put-changed-requires-6 c κs = search needs
+
+enum-told-18 : tie.Need-enum-told-18
+enum-told-18 c = search needs
+
 slice-aggregate-put-text-12 : tie.Need-slice-aggregate-put-text-12
 slice-aggregate-put-text-12 c = search needs
 
 put-text-requires-12 : tie.Need-put-text-requires-12
 put-text-requires-12 c κs = search needs
-
-enum-told-13 : tie.Need-enum-told-13
-enum-told-13 c = search needs
-
-slice-aggregate-put-text-13 : tie.Need-slice-aggregate-put-text-13
-slice-aggregate-put-text-13 c = search needs
-
-put-text-requires-13 : tie.Need-put-text-requires-13
-put-text-requires-13 c κs = search needs
-
-enum-told-14 : tie.Need-enum-told-14
-enum-told-14 c = search needs
-
-slice-aggregate-put-text-14 : tie.Need-slice-aggregate-put-text-14
-slice-aggregate-put-text-14 c = search needs
-
-put-text-requires-14 : tie.Need-put-text-requires-14
-put-text-requires-14 c κs = search needs
-
-enum-told-15 : tie.Need-enum-told-15
-enum-told-15 c = search needs
-
-slice-aggregate-put-text-15 : tie.Need-slice-aggregate-put-text-15
-slice-aggregate-put-text-15 c = search needs
-
-put-text-requires-15 : tie.Need-put-text-requires-15
-put-text-requires-15 c κs = search needs
-
-enum-told-16 : tie.Need-enum-told-16
-enum-told-16 c = search needs
-
-slice-aggregate-put-text-16 : tie.Need-slice-aggregate-put-text-16
-slice-aggregate-put-text-16 c = search needs
-
-put-text-requires-16 : tie.Need-put-text-requires-16
-put-text-requires-16 c κs = search needs
 
 same-length : tie.Need-same-length
 same-length c = search needs
@@ -216,31 +234,43 @@ same-length-12 : tie.Need-same-length-12
 same-length-12 c = search needs
 
 returns-12 : tie.Need-returns-12
-returns-12 c = rw (c .before .before .before .before .before .enum-told12 .given .1) (c .before .before .put-text12 .ensures)
+returns-12 c = rw (c .before .before .before .before .before .enum-told12 .given .1) (c .before .before .put-changed .ensures)
 
 same-length-13 : tie.Need-same-length-13
 same-length-13 c = search needs
 
 returns-13 : tie.Need-returns-13
-returns-13 c = rw (c .before .before .before .before .before .enum-told13 .given .1) (c .before .before .put-text13 .ensures)
+returns-13 c = rw (c .before .before .before .before .before .enum-told13 .given .1) (c .before .before .put-changed2 .ensures)
 
 same-length-14 : tie.Need-same-length-14
 same-length-14 c = search needs
 
 returns-14 : tie.Need-returns-14
-returns-14 c = rw (c .before .before .before .before .before .enum-told14 .given .1) (c .before .before .put-text14 .ensures)
+returns-14 c = rw (c .before .before .before .before .before .enum-told14 .given .1) (c .before .before .put-changed3 .ensures)
 
 same-length-15 : tie.Need-same-length-15
 same-length-15 c = search needs
 
 returns-15 : tie.Need-returns-15
-returns-15 c = rw (c .before .before .before .before .before .enum-told15 .given .1) (c .before .before .put-text15 .ensures)
+returns-15 c = rw (c .before .before .before .before .before .enum-told15 .given .1) (c .before .before .put-changed4 .ensures)
 
 same-length-16 : tie.Need-same-length-16
 same-length-16 c = search needs
 
 returns-16 : tie.Need-returns-16
-returns-16 c = rw (c .before .before .before .before .before .enum-told16 .given .1) (c .before .before .put-text16 .ensures)
+returns-16 c = rw (c .before .before .before .before .before .enum-told16 .given .1) (c .before .before .put-changed5 .ensures)
+
+same-length-17 : tie.Need-same-length-17
+same-length-17 c = search needs
+
+returns-17 : tie.Need-returns-17
+returns-17 c = rw (c .before .before .before .before .before .enum-told17 .given .1) (c .before .before .put-changed6 .ensures)
+
+same-length-18 : tie.Need-same-length-18
+same-length-18 c = search needs
+
+returns-18 : tie.Need-returns-18
+returns-18 c = rw (c .before .before .before .before .before .enum-told18 .given .1) (c .before .before .put-text12 .ensures)
 
 pub put-why-spec : {M : Type 1} → statement M
 put-why-spec =
@@ -280,20 +310,26 @@ put-why-spec =
     slice-aggregate-put-text-11
     put-text-requires-11
     enum-told-12
+    slice-aggregate-put-changed
+    put-changed-requires
+    enum-told-13
+    slice-aggregate-put-changed-2
+    put-changed-requires-2
+    enum-told-14
+    slice-aggregate-put-changed-3
+    put-changed-requires-3
+    enum-told-15
+    slice-aggregate-put-changed-4
+    put-changed-requires-4
+    enum-told-16
+    slice-aggregate-put-changed-5
+    put-changed-requires-5
+    enum-told-17
+    slice-aggregate-put-changed-6
+    put-changed-requires-6
+    enum-told-18
     slice-aggregate-put-text-12
     put-text-requires-12
-    enum-told-13
-    slice-aggregate-put-text-13
-    put-text-requires-13
-    enum-told-14
-    slice-aggregate-put-text-14
-    put-text-requires-14
-    enum-told-15
-    slice-aggregate-put-text-15
-    put-text-requires-15
-    enum-told-16
-    slice-aggregate-put-text-16
-    put-text-requires-16
     same-length
     returns
     same-length-2
@@ -325,4 +361,8 @@ put-why-spec =
     same-length-15
     returns-15
     same-length-16
-    returns-16)
+    returns-16
+    same-length-17
+    returns-17
+    same-length-18
+    returns-18)

@@ -7,22 +7,22 @@ use Rattle.program_answers.proofs.answer_all.Statement.{statement}
 use Rattle.program_answers.proofs.answer_all.Tie as tie
 
 abbrev Inv-loop : tie.InvT-loop
-Inv-loop input₀ output₀ ids₀ addresses₀ code₀ locations₀ fields₀ targets₀ start₀ end₀ at₀ index₀ input output ids addresses code locations fields targets start end at index =
+Inv-loop input₀ output₀ code₀ locations₀ fields₀ targets₀ kinds₀ makers₀ start₀ end₀ at₀ index₀ input output code locations fields targets kinds makers start end at index =
     (start ≤ end)
     × (end ≤ length input)
     × (at ≤ length output)
     × (index ≤ 2 ^ 64 - 1)
     × (length input ≡ length input₀)
     × (length output ≡ length output₀)
-    × (length ids ≡ length ids₀)
-    × (length addresses ≡ length addresses₀)
     × (length code ≡ length code₀)
     × (length locations ≡ length locations₀)
     × (length fields ≡ length fields₀)
     × (length targets ≡ length targets₀)
+    × (length kinds ≡ length kinds₀)
+    × (length makers ≡ length makers₀)
 
 abbrev μ-loop : tie.MeasureT-loop
-μ-loop input₀ output₀ ids₀ addresses₀ code₀ locations₀ fields₀ targets₀ start₀ end₀ at₀ index₀ input output ids addresses code locations fields targets start end at index =
+μ-loop input₀ output₀ code₀ locations₀ fields₀ targets₀ kinds₀ makers₀ start₀ end₀ at₀ index₀ input output code locations fields targets kinds makers start end at index =
     2 ^ 64 - 1 - index
 
 loop-holds : tie.Need-loop-holds Inv-loop μ-loop

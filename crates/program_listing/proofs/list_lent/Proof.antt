@@ -19,6 +19,12 @@ slice-aggregate-list-filter-3 c = search needs
 slice-aggregate-list-filter-4 : tie.Need-slice-aggregate-list-filter-4
 slice-aggregate-list-filter-4 c = search needs
 
+slice-aggregate-list-filter-5 : tie.Need-slice-aggregate-list-filter-5
+slice-aggregate-list-filter-5 c = search needs
+
+slice-aggregate-list-filter-6 : tie.Need-slice-aggregate-list-filter-6
+slice-aggregate-list-filter-6 c = search needs
+
 list-filter-requires : tie.Need-list-filter-requires
 list-filter-requires c κs = search needs
 
@@ -34,5 +40,7 @@ list-lent-spec =
     slice-aggregate-list-filter-2
     slice-aggregate-list-filter-3
     slice-aggregate-list-filter-4
+    slice-aggregate-list-filter-5
+    slice-aggregate-list-filter-6
     list-filter-requires
     returns)

@@ -16,6 +16,12 @@ least-requires-3 c κs = search needs
 least-requires-4 : tie.Need-least-requires-4
 least-requires-4 c κs = search needs
 
+least-requires-5 : tie.Need-least-requires-5
+least-requires-5 c κs = search needs
+
+least-requires-6 : tie.Need-least-requires-6
+least-requires-6 c κs = search needs
+
 sub-list-filter : tie.Need-sub-list-filter
 sub-list-filter c = search needs
 
@@ -55,6 +61,18 @@ array-borrow-prefix-targets c = search needs
 slice-aggregate-list-filter-6 : tie.Need-slice-aggregate-list-filter-6
 slice-aggregate-list-filter-6 c = simp length-take (omega arith)
 
+array-borrow-prefix-kinds : tie.Need-array-borrow-prefix-kinds
+array-borrow-prefix-kinds c = search needs
+
+slice-aggregate-list-filter-7 : tie.Need-slice-aggregate-list-filter-7
+slice-aggregate-list-filter-7 c = simp length-take (omega arith)
+
+array-borrow-prefix-makers : tie.Need-array-borrow-prefix-makers
+array-borrow-prefix-makers c = search needs
+
+slice-aggregate-list-filter-8 : tie.Need-slice-aggregate-list-filter-8
+slice-aggregate-list-filter-8 c = simp length-take (omega arith)
+
 list-filter-requires : tie.Need-list-filter-requires
 list-filter-requires c κs = search needs
 
@@ -72,6 +90,8 @@ show-case-spec =
     least-requires-2
     least-requires-3
     least-requires-4
+    least-requires-5
+    least-requires-6
     sub-list-filter
     part-list-filter-start
     part-list-filter-end
@@ -85,6 +105,10 @@ show-case-spec =
     slice-aggregate-list-filter-5
     array-borrow-prefix-targets
     slice-aggregate-list-filter-6
+    array-borrow-prefix-kinds
+    slice-aggregate-list-filter-7
+    array-borrow-prefix-makers
+    slice-aggregate-list-filter-8
     list-filter-requires
     show-answer-requires
     returns)

@@ -1,132 +1,81 @@
-use Rattle.cases_bytes.specs.Answers.{acceptedFits}
-use Rattle.cases_bytes.proofs.AnswersLaws.{length-head, length-entries, accepted-parts}
+use Rattle.cases_bytes.proofs.AnswersLaws.{length-head, length-tables, accepted-parts, fits}
 use Rattle.cases_bytes.proofs.StoredLaws.{behind, stored, unstored, same-run}
-use lib.ListN.{length}
+use mathlib.Core.Path.{_∙_, sym}
 use native.Mathlib.Omega.{arith}
-use borrow.Author.Tests.{le-leb, lt-leb}
+use borrow.Author.Tests.{not-true, not-false}
 use borrow.Author.Needs.{needs}
 use Rattle.cases_bytes.proofs.answer.put_accepted.Statement.{statement}
 use Rattle.cases_bytes.proofs.answer.put_accepted.Tie as tie
 
+is-room-requires : tie.Need-is-room-requires
+is-room-requires c κs = search needs
+
 returns : tie.Need-returns
-unfolding acceptedFits
-returns c = unstored (rw (lt-leb _ _ (c .if1 .taken)))
+returns c = unstored (sym (c .before .is-room .ensures) ∙ not-true _ (c .if1 .taken))
 
-returns-2 : tie.Need-returns-2
-unfolding acceptedFits
-returns-2 c = unstored (rw (le-leb _ _ (c .before .if1 .left), lt-leb _ _ (c .if2 .taken)))
+add-all : tie.Need-add-all
+add-all c = search needs
 
-returns-3 : tie.Need-returns-3
-unfolding acceptedFits
-returns-3 c = unstored (rw (le-leb _ _ (c .before .before .if1 .left), le-leb _ _ (c .before .if2 .left), lt-leb _ _ (c .if3 .taken)))
+add-all-2 : tie.Need-add-all-2
+add-all-2 c = search needs
 
-returns-4 : tie.Need-returns-4
-unfolding acceptedFits
-returns-4 c =
-    unstored
-    (rw (
-      le-leb _ _ (c .before .before .before .if1 .left),
-      le-leb _ _ (c .before .before .if2 .left),
-      le-leb _ _ (c .before .if3 .left),
-      lt-leb _ _ (c .if4 .taken),
-    ))
+add-all-3 : tie.Need-add-all-3
+add-all-3 c = search needs
 
-returns-5 : tie.Need-returns-5
-unfolding acceptedFits
-returns-5 c =
-    unstored
-    (rw (
-      le-leb _ _ (c .before .before .before .before .if1 .left),
-      le-leb _ _ (c .before .before .before .if2 .left),
-      le-leb _ _ (c .before .before .if3 .left),
-      le-leb _ _ (c .before .if4 .left),
-      lt-leb _ _ (c .if5 .taken),
-    ))
+add-all-4 : tie.Need-add-all-4
+add-all-4 c = search needs
 
 put-lengths-requires : tie.Need-put-lengths-requires
-put-lengths-requires c κs = search needs
+put-lengths-requires c κs =
+    let room = fits _ _ _ _ _ _ _ (sym (c .before .before .is-room .ensures) ∙ not-false _ (c .before .if1 .left)) in
+    (omega (arith, room .out), (room .code, (room .locations, (room .fields, omega (arith, room .targets, room .kinds, room .makers)))))
 
 put-code-requires : tie.Need-put-code-requires
 put-code-requires c κs =
     let lengths = c .before .before .before in
-    let args = lengths .before .before .before .before .before .before .before .before .before .before .before .before .args in
-    omega (arith, length-head (length (args .code .now)) (length (args .locations .now)) (length (args .fields .now)) (length (args .targets .now)))
+    let room = fits _ _ _ _ _ _ _ (sym (lengths .before .before .before .is-room .ensures) ∙ not-false _ (lengths .before .before .if1 .left)) in
+    let args = lengths .before .before .before .before .before .before .before .before .before .before .before .args in
+    let head = length-head (args .code .now) (args .locations .now) (args .fields .now) (args .targets .now) (args .kinds .now) (args .makers .now) in
+    omega (arith, room .out, room .code, head)
 
-put-table-requires : tie.Need-put-table-requires
-put-table-requires c κs =
+put-tables-requires : tie.Need-put-tables-requires
+put-tables-requires c κs =
     let lengths = c .before .before .before .before .before .before .before in
-    let args = lengths .before .before .before .before .before .before .before .before .before .before .before .before .args in
-    omega (arith, length-head (length (args .code .now)) (length (args .locations .now)) (length (args .fields .now)) (length (args .targets .now)))
-
-put-table-requires-2 : tie.Need-put-table-requires-2
-put-table-requires-2 c κs =
-    let lengths = c .before .before .before .before .before .before .before .before .before .before .before in
-    let args = lengths .before .before .before .before .before .before .before .before .before .before .before .before .args in
-    omega (
-      arith,
-      length-head (length (args .code .now)) (length (args .locations .now)) (length (args .fields .now)) (length (args .targets .now)),
-      length-entries (args .locations .now),
-    )
-
-put-table-requires-3 : tie.Need-put-table-requires-3
-put-table-requires-3 c κs =
-    let lengths = c .before .before .before .before .before .before .before .before .before .before .before .before .before .before .before in
-    let args = lengths .before .before .before .before .before .before .before .before .before .before .before .before .args in
-    omega (
-      arith,
-      length-head (length (args .code .now)) (length (args .locations .now)) (length (args .fields .now)) (length (args .targets .now)),
-      length-entries (args .locations .now),
-      length-entries (args .fields .now),
-    )
+    let room = fits _ _ _ _ _ _ _ (sym (lengths .before .before .before .is-room .ensures) ∙ not-false _ (lengths .before .before .if1 .left)) in
+    let args = lengths .before .before .before .before .before .before .before .before .before .before .before .args in
+    let head = length-head (args .code .now) (args .locations .now) (args .fields .now) (args .targets .now) (args .kinds .now) (args .makers .now) in
+    omega (arith, room .out, room .code, room .locations, room .fields, room .targets, room .kinds, room .makers, head)
 
 same-length : tie.Need-same-length
 same-length c = search needs
 
-returns-6 : tie.Need-returns-6
-unfolding acceptedFits
-returns-6 c =
-    let targets = c .before .before in
-    let fields = targets .before .before .before .before in
-    let locations = fields .before .before .before .before in
-    let code = locations .before .before .before .before in
+returns-2 : tie.Need-returns-2
+returns-2 c =
+    let tables = c .before .before in
+    let code = tables .before .before .before .before in
     let lengths = code .before .before .before .before in
-    let fits = lengths .before .before in
-    let args = fits .before .before .before .before .before .before .before .before .before .before .args in
-    stored
-    (rw (
-      le-leb _ _ (fits .before .before .before .before .if1 .left),
-      le-leb _ _ (fits .before .before .before .if2 .left),
-      le-leb _ _ (fits .before .before .if3 .left),
-      le-leb _ _ (fits .before .if4 .left),
-      le-leb _ _ (fits .if5 .left),
-    ))
-    (omega (
-      arith,
-      length-head (length (args .code .now)) (length (args .locations .now)) (length (args .fields .now)) (length (args .targets .now)),
-      length-entries (args .locations .now),
-      length-entries (args .fields .now),
-      length-entries (args .targets .now),
-    ))
+    let fine = sym (lengths .before .before .before .is-room .ensures) ∙ not-false _ (lengths .before .before .if1 .left) in
+    let room = fits _ _ _ _ _ _ _ fine in
+    let args = lengths .before .before .before .before .before .before .before .before .before .before .before .args in
+    let head = length-head (args .code .now) (args .locations .now) (args .fields .now) (args .targets .now) (args .kinds .now) (args .makers .now) in
+    let all = length-tables (args .locations .now) (args .fields .now) (args .targets .now) (args .kinds .now) (args .makers .now) in
+    stored fine (omega (arith, room .out, room .code, room .locations, room .fields, room .targets, room .kinds, room .makers, head, all))
     (same-run
-    (behind (lengths .put-lengths .ensures)
-    (behind (code .put-code .ensures)
-    (behind (locations .put-table .ensures)
-    (behind (fields .put-table2 .ensures) (targets .put-table3 .ensures)))))
-    (accepted-parts _ _ _ _))
+    (behind (lengths .put-lengths .ensures) (behind (code .put-code .ensures) (tables .put-tables .ensures)))
+    (accepted-parts _ _ _ _ _ _))
 
 pub put-accepted-spec : {M : Type 1} → statement M
 put-accepted-spec =
     tie.close
     (tie.spec
+    is-room-requires
     returns
-    returns-2
-    returns-3
-    returns-4
-    returns-5
+    add-all
+    add-all-2
+    add-all-3
+    add-all-4
     put-lengths-requires
     put-code-requires
-    put-table-requires
-    put-table-requires-2
-    put-table-requires-3
+    put-tables-requires
     same-length
-    returns-6)
+    returns-2)

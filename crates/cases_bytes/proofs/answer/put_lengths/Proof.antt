@@ -13,18 +13,6 @@ mul-total c = search needs
 add-total-2 : tie.Need-add-total-2
 add-total-2 c = search needs
 
-mul-total-2 : tie.Need-mul-total-2
-mul-total-2 c = search needs
-
-add-total-3 : tie.Need-add-total-3
-add-total-3 c = search needs
-
-mul-total-3 : tie.Need-mul-total-3
-mul-total-3 c = search needs
-
-add-total-4 : tie.Need-add-total-4
-add-total-4 c = search needs
-
 cast-put-number : tie.Need-cast-put-number
 cast-put-number c = search needs
 
@@ -75,10 +63,6 @@ put-lengths-spec =
     add-total
     mul-total
     add-total-2
-    mul-total-2
-    add-total-3
-    mul-total-3
-    add-total-4
     cast-put-number
     put-number-requires
     put-byte-requires

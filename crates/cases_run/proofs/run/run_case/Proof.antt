@@ -15,6 +15,12 @@ least-requires-3 c κs = search needs
 least-requires-4 : tie.Need-least-requires-4
 least-requires-4 c κs = search needs
 
+least-requires-5 : tie.Need-least-requires-5
+least-requires-5 c κs = search needs
+
+least-requires-6 : tie.Need-least-requires-6
+least-requires-6 c κs = search needs
+
 sub-run-lent : tie.Need-sub-run-lent
 sub-run-lent c = search needs
 
@@ -26,37 +32,51 @@ part-run-lent-end c = search needs
 
 slice-aggregate-run-lent : tie.Need-slice-aggregate-run-lent
 slice-aggregate-run-lent c =
-    let asked = c .before .before .before .before .before .before .before .before .before .before .before .before .before .before in
+    let lengths = c .before .before .before .before .before .before .before in
+    let asked = lengths .before .before .before .before .before .before .before .before .before .before .before in
     simp (length-take-le, asked .pre .0)
 
 slice-aggregate-run-lent-2 : tie.Need-slice-aggregate-run-lent-2
 slice-aggregate-run-lent-2 c =
-    let asked = c .before .before .before .before .before .before .before .before .before .before .before .before .before .before .before in
+    let lengths = c .before .before .before .before .before .before .before .before in
+    let asked = lengths .before .before .before .before .before .before .before .before .before .before .before in
     simp (length-take-le, asked .pre .1 .0)
 
 slice-relend-prefix-run-lent : tie.Need-slice-relend-prefix-run-lent
 slice-relend-prefix-run-lent c = search needs
 
 slice-aggregate-run-lent-3 : tie.Need-slice-aggregate-run-lent-3
-slice-aggregate-run-lent-3 c = simp (length-take-le, c .before .before .before .before .before .before .before .least .ensures .1)
+slice-aggregate-run-lent-3 c = simp (length-take-le, c .before .before .before .before .before .before .before .before .before .least .ensures .1)
 
 slice-relend-prefix-run-lent-2 : tie.Need-slice-relend-prefix-run-lent-2
 slice-relend-prefix-run-lent-2 c = search needs
 
 slice-aggregate-run-lent-4 : tie.Need-slice-aggregate-run-lent-4
-slice-aggregate-run-lent-4 c = simp (length-take-le, c .before .before .before .before .before .before .before .least2 .ensures .1)
+slice-aggregate-run-lent-4 c = simp (length-take-le, c .before .before .before .before .before .before .before .before .before .least2 .ensures .1)
 
 slice-relend-prefix-run-lent-3 : tie.Need-slice-relend-prefix-run-lent-3
 slice-relend-prefix-run-lent-3 c = search needs
 
 slice-aggregate-run-lent-5 : tie.Need-slice-aggregate-run-lent-5
-slice-aggregate-run-lent-5 c = simp (length-take-le, c .before .before .before .before .before .before .before .least3 .ensures .1)
+slice-aggregate-run-lent-5 c = simp (length-take-le, c .before .before .before .before .before .before .before .before .before .least3 .ensures .1)
 
 slice-relend-prefix-run-lent-4 : tie.Need-slice-relend-prefix-run-lent-4
 slice-relend-prefix-run-lent-4 c = search needs
 
 slice-aggregate-run-lent-6 : tie.Need-slice-aggregate-run-lent-6
-slice-aggregate-run-lent-6 c = simp (length-take-le, c .before .before .before .before .before .before .before .least4 .ensures .1)
+slice-aggregate-run-lent-6 c = simp (length-take-le, c .before .before .before .before .before .before .before .before .before .least4 .ensures .1)
+
+slice-relend-prefix-run-lent-5 : tie.Need-slice-relend-prefix-run-lent-5
+slice-relend-prefix-run-lent-5 c = search needs
+
+slice-aggregate-run-lent-7 : tie.Need-slice-aggregate-run-lent-7
+slice-aggregate-run-lent-7 c = simp (length-take-le, c .before .before .before .before .before .before .before .before .before .least5 .ensures .1)
+
+slice-relend-prefix-run-lent-6 : tie.Need-slice-relend-prefix-run-lent-6
+slice-relend-prefix-run-lent-6 c = search needs
+
+slice-aggregate-run-lent-8 : tie.Need-slice-aggregate-run-lent-8
+slice-aggregate-run-lent-8 c = simp (length-take-le, c .before .before .before .before .before .before .before .before .before .least6 .ensures .1)
 
 run-lent-requires : tie.Need-run-lent-requires
 run-lent-requires c κs = search needs
@@ -76,6 +96,12 @@ same-length-4 c = search needs
 same-length-5 : tie.Need-same-length-5
 same-length-5 c = search needs
 
+same-length-6 : tie.Need-same-length-6
+same-length-6 c = search needs
+
+same-length-7 : tie.Need-same-length-7
+same-length-7 c = search needs
+
 returns : tie.Need-returns
 returns c = search needs
 
@@ -87,6 +113,8 @@ run-case-spec =
     least-requires-2
     least-requires-3
     least-requires-4
+    least-requires-5
+    least-requires-6
     sub-run-lent
     part-run-lent-start
     part-run-lent-end
@@ -100,10 +128,16 @@ run-case-spec =
     slice-aggregate-run-lent-5
     slice-relend-prefix-run-lent-4
     slice-aggregate-run-lent-6
+    slice-relend-prefix-run-lent-5
+    slice-aggregate-run-lent-7
+    slice-relend-prefix-run-lent-6
+    slice-aggregate-run-lent-8
     run-lent-requires
     same-length
     same-length-2
     same-length-3
     same-length-4
     same-length-5
+    same-length-6
+    same-length-7
     returns)

@@ -7,7 +7,7 @@ use mathlib.Core.List.{[], _∷_}
 use Rattle.jit.specs.MulDivMod.{tested, divByZero}
 use Rattle.x86.specs.Code.{near, to, size}
 use Rattle.x86.proofs.CodeLaws.{blanks-append, length-blanks}
-use mathlib.Core.Path.{refl}
+use mathlib.Core.Path.{_∙_, refl}
 use native.Mathlib.Omega.{arith}
 use Rattle.x86_emit.proofs.WroteLaws.{then, last}
 use borrow.Author.Needs.{needs}
@@ -23,7 +23,7 @@ skip-of-requires c κs = search needs
 emit-jcc-requires : tie.Need-emit-jcc-requires
 emit-jcc-requires c κs =
     let emit-tested = c .before .before .before .before .emit-tested in
-    let start = c .before .before .before .before .before .before .before .before .before in
+    let start = c .before .before .before .before .before .before .before .before .before .before .before in
     omega (
       arith,
       start .pre .0 .page,
@@ -36,7 +36,7 @@ emit-jcc-requires c κs =
 emit-alu-requires : tie.Need-emit-alu-requires
 emit-alu-requires c κs =
     let emit-tested = c .before .before .before .before .before .before .before .before .emit-tested in
-    let start = c .before .before .before .before .before .before .before .before .before .before .before .before .before in (
+    let start = c .before .before .before .before .before .before .before .before .before .before .before .before .before .before .before in (
       omega (
         arith,
         start .pre .0 .page,
@@ -53,7 +53,7 @@ emit-jmp-requires : tie.Need-emit-jmp-requires
 emit-jmp-requires c κs =
     let emit-jcc = c .before .before .before .before .before .before .before .emit-jcc in
     let at-emit-tested = c .before .before .before .before .before .before .before .before .before .before .before .before in
-    let start = at-emit-tested .before .before .before .before .before in
+    let start = at-emit-tested .before .before .before .before .before .before .before in
     omega (
       arith,
       start .pre .0 .page,
@@ -67,28 +67,27 @@ emit-jmp-requires c κs =
 
 cast-record-jump : tie.Need-cast-record-jump
 cast-record-jump c =
-    let at-emit-alu = c .before .before .before .before .before .before .before .before .before in
-    let start = at-emit-alu .before .before .before .before .before .before .before .before .before .before .before .before .before .before in
+    let at-emit-alu = c .before .before .before .before .before .before .before .before .before .before .before in
+    let start = at-emit-alu .before .before .before .before .before .before .before .before .before .before .before .before .before .before .before .before in
     omega (arith, start .pre .1 .1 .1)
 
 add-record-jump : tie.Need-add-record-jump
 add-record-jump c =
-    let at-emit-alu = c .before .before .before .before .before .before .before .before .before in
-    let start = at-emit-alu .before .before .before .before .before .before .before .before .before .before .before .before .before .before in
+    let at-emit-alu = c .before .before .before .before .before .before .before .before .before .before .before in
+    let start = at-emit-alu .before .before .before .before .before .before .before .before .before .before .before .before .before .before .before .before in
     omega (arith, start .pre .1 .1 .1)
 
 record-jump-requires : tie.Need-record-jump-requires
 record-jump-requires c κs =
-    let emit-jmp = c .before .before .before .before .before .emit-jmp in
-    let at-emit-alu = c .before .before .before .before .before .before .before .before .before in
+    let emit-jmp = c .before .before .before .before .before .before .before .emit-jmp in
+    let at-emit-alu = c .before .before .before .before .before .before .before .before .before .before .before in
     let at-emit-jcc = at-emit-alu .before .before .before .before in
     let at-emit-tested = at-emit-jcc .before .before .before .before .before in
-    let start = at-emit-tested .before .before .before .before .before in (
-      start .pre .0 .field,
+    let start = at-emit-tested .before .before .before .before .before .before .before in (
+      start .pre .0 .entry,
       (
-        start .pre .0 .target,
+        omega (arith, emit-jmp .ensures .next),
         (
-          omega (arith, emit-jmp .ensures .next),
           omega (
             arith,
             start .pre .0 .page,
@@ -100,12 +99,18 @@ record-jump-requires c κs =
             at-emit-alu .emit-alu .ensures .next,
             emit-jmp .ensures .next,
           ),
+          omega (arith, start .pre .1 .1 .1),
         ),
       ),
     )
 
 same-length : tie.Need-same-length
-same-length c = search needs
+same-length c =
+    let at-emit-jmp = c .before .before .before .before .before .before .before .before .before .before .before .before .before .before .before .before in
+    let at-emit-alu = at-emit-jmp .before .before .before .before in
+    let at-emit-jcc = at-emit-alu .before .before .before .before in
+    let at-emit-tested = at-emit-jcc .before .before .before .before .before in
+    at-emit-jmp .emit-jmp .kept .0 ∙ at-emit-alu .emit-alu .kept .0 ∙ at-emit-jcc .emit-jcc .kept .0 ∙ at-emit-tested .emit-tested .kept .0
 
 same-length-2 : tie.Need-same-length-2
 same-length-2 c = search needs
@@ -113,15 +118,21 @@ same-length-2 c = search needs
 same-length-3 : tie.Need-same-length-3
 same-length-3 c = search needs
 
+same-length-4 : tie.Need-same-length-4
+same-length-4 c = search needs
+
+same-length-5 : tie.Need-same-length-5
+same-length-5 c = search needs
+
 returns : tie.Need-returns
 returns c =
-    let record-jump = c .before .before .before .before .record-jump in
-    let at-emit-jmp = c .before .before .before .before .before .before .before .before .before .before in
+    let record-jump = c .before .before .before .before .before .before .before .before .record-jump in
+    let at-emit-jmp = c .before .before .before .before .before .before .before .before .before .before .before .before .before .before .before .before in
     let at-emit-alu = at-emit-jmp .before .before .before .before in
     let at-emit-jcc = at-emit-alu .before .before .before .before in
     let at-skip-of = at-emit-jcc .before in
     let at-emit-tested = at-skip-of .before .before .before .before in
-    let start = at-emit-tested .before .before .before .before .before in
+    let start = at-emit-tested .before .before .before .before .before .before .before in
     jumped ((tested (start .args .slot .number) (start .args .width) (start .args .src)) ++
     (jump (jcc JNE) (near (size (divByZero (start .args .slot .number) (start .args .dst)))) ∷ op (alu XOR W32 (start .args .dst) (start .args .dst)) ∷
     [])) jmp refl (rw (
@@ -148,4 +159,6 @@ emit-div-guard-spec =
     same-length
     same-length-2
     same-length-3
+    same-length-4
+    same-length-5
     returns)

@@ -17,7 +17,7 @@ emit-tested-requires c κs = search needs
 
 emit-jcc-requires : tie.Need-emit-jcc-requires
 emit-jcc-requires c κs =
-    let start = c .before .before .before .before .before .before .before .before in
+    let start = c .before .before .before .before .before .before .before .before .before .before in
     omega (
       arith,
       start .pre .0 .page,
@@ -35,14 +35,13 @@ add-record-jump c = search needs
 
 record-jump-requires : tie.Need-record-jump-requires
 record-jump-requires c κs =
-    let emit-jcc = c .before .before .before .before .before .emit-jcc in
-    let at-emit-tested = c .before .before .before .before .before .before .before .before .before in
-    let start = at-emit-tested .before .before .before .before .before in (
-      start .pre .0 .field,
+    let emit-jcc = c .before .before .before .before .before .before .before .emit-jcc in
+    let at-emit-tested = c .before .before .before .before .before .before .before .before .before .before .before in
+    let start = at-emit-tested .before .before .before .before .before .before .before in (
+      start .pre .0 .entry,
       (
-        start .pre .0 .target,
+        omega (arith, emit-jcc .ensures .next),
         (
-          omega (arith, emit-jcc .ensures .next),
           omega (
             arith,
             start .pre .0 .page,
@@ -52,6 +51,7 @@ record-jump-requires c κs =
                 (tested (start .args .slot .number) (start .args .width) (start .args .src)),
             emit-jcc .ensures .next,
           ),
+          omega (arith, start .pre .1 .1),
         ),
       ),
     )
@@ -65,12 +65,18 @@ same-length-2 c = search needs
 same-length-3 : tie.Need-same-length-3
 same-length-3 c = search needs
 
+same-length-4 : tie.Need-same-length-4
+same-length-4 c = search needs
+
+same-length-5 : tie.Need-same-length-5
+same-length-5 c = search needs
+
 returns : tie.Need-returns
 returns c =
-    let record-jump = c .before .before .before .before .record-jump in
-    let at-emit-jcc = c .before .before .before .before .before .before .before .before .before .before in
+    let record-jump = c .before .before .before .before .before .before .before .before .record-jump in
+    let at-emit-jcc = c .before .before .before .before .before .before .before .before .before .before .before .before .before .before .before .before in
     let at-emit-tested = at-emit-jcc .before .before .before .before in
-    let start = at-emit-tested .before .before .before .before .before in
+    let start = at-emit-tested .before .before .before .before .before .before .before in
     jumped (tested (start .args .slot .number) (start .args .width) (start .args .src)) (jcc JE) refl
     (rw (blanks-append (tested (start .args .slot .number) (start .args .width) (start .args .src))
     (jump (jcc JE) (to (start .args .slot .number + 1)) ∷ [])) (then (at-emit-tested .emit-tested .ensures) (last (at-emit-jcc .emit-jcc .ensures))))
@@ -88,4 +94,6 @@ emit-mod-guard-spec =
     same-length
     same-length-2
     same-length-3
+    same-length-4
+    same-length-5
     returns)

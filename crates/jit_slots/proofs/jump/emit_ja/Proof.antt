@@ -25,10 +25,16 @@ same-length-2 c = search needs
 same-length-3 : tie.Need-same-length-3
 same-length-3 c = search needs
 
+same-length-4 : tie.Need-same-length-4
+same-length-4 c = search needs
+
+same-length-5 : tie.Need-same-length-5
+same-length-5 c = search needs
+
 returns : tie.Need-returns
 returns c =
-    let record-jump = c .before .before .before .before .record-jump in
-    let at-emit-jmp = c .before .before .before .before .before .before .before .before .before in
+    let record-jump = c .before .before .before .before .before .before .before .before .record-jump in
+    let at-emit-jmp = c .before .before .before .before .before .before .before .before .before .before .before .before .before .before .before in
     let at-target-of = at-emit-jmp .before .before in
     rw (← at-target-of .target-of .ensures) (jumped [] jmp refl (last (at-emit-jmp .emit-jmp .ensures)) (record-jump .ensures))
 
@@ -42,4 +48,6 @@ emit-ja-spec =
     same-length
     same-length-2
     same-length-3
+    same-length-4
+    same-length-5
     returns)

@@ -33,14 +33,20 @@ same-length-2 c = search needs
 same-length-3 : tie.Need-same-length-3
 same-length-3 c = search needs
 
+same-length-4 : tie.Need-same-length-4
+same-length-4 c = search needs
+
+same-length-5 : tie.Need-same-length-5
+same-length-5 c = search needs
+
 returns : tie.Need-returns
 returns c =
-    let record-jump = c .before .before .before .before .record-jump in
-    let at-emit-jcc = c .before .before .before .before .before .before .before .before .before in
+    let record-jump = c .before .before .before .before .before .before .before .before .record-jump in
+    let at-emit-jcc = c .before .before .before .before .before .before .before .before .before .before .before .before .before .before .before in
     let at-condition-byte = at-emit-jcc .before in
     let at-emit-compare = at-condition-byte .before .before .before .before in
     let at-target-of = at-emit-compare .before .before in
-    let start = at-target-of .before .before .before .before in
+    let start = at-target-of .before .before .before .before .before .before in
     let condition = conditionOf (start .args .i .opc) in
     rw (← at-target-of .target-of .ensures) (jumped (op (compare condition (start .args .width) (start .args .source) (start .args .i)) ∷ [])
     (jcc (condOf condition)) refl
@@ -59,4 +65,6 @@ emit-jump-spec =
     same-length
     same-length-2
     same-length-3
+    same-length-4
+    same-length-5
     returns)

@@ -16,35 +16,35 @@ emit-saved-registers-requires c κs = search needs
 
 emit-call-requires : tie.Need-emit-call-requires
 emit-call-requires c κs =
-    let start = c .before .before .before .before .before .before .before .before in
-    omega (arith, start .pre .page, start .pre .small, c .before .before .before .emit-saved-registers .ensures .next, length-blanks callSaves)
+    let start = c .before .before .before .before .before .before .before .before .before .before in
+    omega (arith, start .pre .0 .page, start .pre .0 .small, c .before .before .before .emit-saved-registers .ensures .next, length-blanks callSaves)
 
 record-jump-requires : tie.Need-record-jump-requires
 record-jump-requires c κs =
-    let emit-call = c .before .before .before .before .emit-call in
-    let emit-saved-registers = c .before .before .before .before .before .before .before .before .emit-saved-registers in
-    let start = c .before .before .before .before .before .before .before .before .before .before .before .before .before in (
-      start .pre .field,
+    let emit-call = c .before .before .before .before .before .before .emit-call in
+    let emit-saved-registers = c .before .before .before .before .before .before .before .before .before .before .emit-saved-registers in
+    let start = c .before .before .before .before .before .before .before .before .before .before .before .before .before .before .before .before .before in (
+      start .pre .0 .entry,
       (
-        start .pre .target,
+        omega (arith, emit-call .ensures .next),
         (
-          omega (arith, emit-call .ensures .next),
           omega
-              (arith, start .pre .page, start .pre .small, emit-saved-registers .ensures .next, length-blanks callSaves, emit-call .ensures .next),
+              (arith, start .pre .0 .page, start .pre .0 .small, emit-saved-registers .ensures .next, length-blanks callSaves, emit-call .ensures .next),
+          omega (arith, start .pre .1),
         ),
       ),
     )
 
 emit-restored-registers-requires : tie.Need-emit-restored-registers-requires
 emit-restored-registers-requires c κs =
-    let record-jump = c .before .before .before .before .before .record-jump in
-    let at-emit-call = c .before .before .before .before .before .before .before .before .before .before in
+    let record-jump = c .before .before .before .before .before .before .before .before .before .record-jump in
+    let at-emit-call = c .before .before .before .before .before .before .before .before .before .before .before .before .before .before .before .before in
     let at-emit-saved-registers = at-emit-call .before .before .before .before in
-    let start = at-emit-saved-registers .before .before .before .before .before in
+    let start = at-emit-saved-registers .before .before .before .before .before .before .before in
     omega (
       arith,
-      start .pre .page,
-      start .pre .small,
+      start .pre .0 .page,
+      start .pre .0 .small,
       at-emit-saved-registers .emit-saved-registers .ensures .next,
       length-blanks callSaves,
       at-emit-call .emit-call .ensures .next,
@@ -60,12 +60,18 @@ same-length-2 c = search needs
 same-length-3 : tie.Need-same-length-3
 same-length-3 c = search needs
 
+same-length-4 : tie.Need-same-length-4
+same-length-4 c = search needs
+
+same-length-5 : tie.Need-same-length-5
+same-length-5 c = search needs
+
 returns : tie.Need-returns
 returns c =
-    let record-jump = c .before .before .before .before .before .before .before .before .record-jump in
-    let at-emit-call = c .before .before .before .before .before .before .before .before .before .before .before .before .before in
+    let record-jump = c .before .before .before .before .before .before .before .before .before .before .before .before .record-jump in
+    let at-emit-call = c .before .before .before .before .before .before .before .before .before .before .before .before .before .before .before .before .before .before .before in
     let at-emit-saved-registers = at-emit-call .before .before .before .before in
-    let start = at-emit-saved-registers .before .before .before .before .before in
+    let start = at-emit-saved-registers .before .before .before .before .before .before .before in
     emits-then (callSaves ++ (jump call (to (start .args .target)) ∷ [])) callRestores
     (jumped callSaves call refl (rw (blanks-append callSaves (jump call (to (start .args .target)) ∷ []))
     (then (at-emit-saved-registers .emit-saved-registers .ensures) (last (at-emit-call .emit-call .ensures)))) (record-jump .ensures))
@@ -82,4 +88,6 @@ emit-local-call-spec =
     same-length
     same-length-2
     same-length-3
+    same-length-4
+    same-length-5
     returns)

@@ -20,7 +20,7 @@ judge-requires : tie.Need-judge-requires
 judge-requires c κs =
     let fine = rw (c .before .enum-told .given .1) at (c .before .before .before .sizes .ensures .fine) in
     let table = c .before .before .before .before .before .before .before .pre in
-    (table, (fine .1 .1 .0, (fine .1 .0, (omega (arith, fine .0, c .prologue-size .ensures .1), fine .1 .1 .1 .1 .1 .1))))
+    (table, (fine .1 .1 .0, (fine .1 .0, (omega (arith, fine .0, c .prologue-size .ensures .1), fine .1 .1 .1 .1))))
 
 returns : tie.Need-returns
 returns c = unsized _ (c .before .before .before .sizes .ensures) (c .before .refusal .given .1)

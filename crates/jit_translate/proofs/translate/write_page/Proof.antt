@@ -1,4 +1,4 @@
-use Rattle.jit_translate.proofs.PageLaws.{closing, short, written}
+use Rattle.jit_translate.proofs.PageLaws.{closing, short, written, named}
 use native.Mathlib.Omega.{arith}
 use mathlib.Core.Path.{refl}
 use borrow.Author.Needs.{needs}
@@ -10,16 +10,23 @@ write-begin-requires c κs = search needs
 
 write-end-requires : tie.Need-write-end-requires
 write-end-requires c κs =
-    let at-write-begin = c .before .before .before .before .before .before .before .before .before .before .before .before in
-    let good = at-write-begin .before .before .before .before .before .before .before .before .before .before .before .before .pre .1 in
-    closing good (at-write-begin .write-begin .ensures) refl refl refl refl (omega arith) (omega arith) (omega arith) (omega arith)
+    let at-write-begin = c .before .before .before .before .before .before .before .before .before .before .before .before .before .before .before .before in
+    let start = at-write-begin .before .before .before .before .before .before .before .before .before .before .before .before .before .before .before .before in
+    let good = start .pre .1 in
+    let kept = at-write-begin .write-begin .kept .1 .1 .1 .1 .1 in
+    closing good (at-write-begin .write-begin .ensures) refl refl (record { fields = refl; targets = refl; kinds = refl; makers = refl })
+    (kept .0) (kept .1 .0) (kept .1 .1 .0) (kept .1 .1 .1 .0)
 
 add-length : tie.Need-add-length
 add-length c =
-    let far = c .before .before .before .before .before .before .before .before .before .before .before .before in
-    let at-write-begin = far .before .before .before .before .before .before in
-    let good = at-write-begin .before .before .before .before .before .before .before .before .before .before .before .before .pre .1 in
-    omega (arith, short good (at-write-begin .write-begin .ensures) refl refl refl refl)
+    let at-write-begin = c .before .before .before .before .before .before .before .before .before .before .before .before .before .before .before .before .before .before .before .before .before .before in
+    let start = at-write-begin .before .before .before .before .before .before .before .before .before .before .before .before .before .before .before .before in
+    let good = start .pre .1 in
+    omega (
+      arith,
+      short good (at-write-begin .write-begin .ensures) refl refl
+          (record { fields = refl; targets = refl; kinds = refl; makers = refl }),
+    )
 
 same-length : tie.Need-same-length
 same-length c = search needs
@@ -33,12 +40,23 @@ same-length-3 c = search needs
 same-length-4 : tie.Need-same-length-4
 same-length-4 c = search needs
 
+same-length-5 : tie.Need-same-length-5
+same-length-5 c = search needs
+
+same-length-6 : tie.Need-same-length-6
+same-length-6 c = search needs
+
 returns : tie.Need-returns
 returns c =
-    let at-write-end = c .before .before .before .before .before in
-    let at-write-begin = at-write-end .before .before .before .before .before .before .before .before .before .before .before .before .before in
-    let good = at-write-begin .before .before .before .before .before .before .before .before .before .before .before .before .pre .1 in
-    written good (at-write-begin .write-begin .ensures) refl refl refl refl (omega arith) (at-write-end .write-end .ensures)
+    let at-write-begin = c .before .before .before .before .before .before .before .before .before .before .before .before .before .before .before .before .before .before .before .before .before .before in
+    let start = at-write-begin .before .before .before .before .before .before .before .before .before .before .before .before .before .before .before .before in
+    let good = start .pre .1 in
+    let begun = at-write-begin .write-begin .ensures in
+    let at-write-end = c .before .before .before .before .before in (
+      written good begun refl refl (record { fields = refl; targets = refl; kinds = refl; makers = refl })
+          (at-write-begin .write-begin .kept .1 .1 .1 .1 .1 .0) (at-write-end .write-end .ensures),
+      named good begun refl refl (record { fields = refl; targets = refl; kinds = refl; makers = refl }),
+    )
 
 pub write-page-spec : {M : Type 1} → statement M
 write-page-spec =
@@ -51,4 +69,6 @@ write-page-spec =
     same-length-2
     same-length-3
     same-length-4
+    same-length-5
+    same-length-6
     returns)

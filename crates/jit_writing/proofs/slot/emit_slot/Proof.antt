@@ -21,8 +21,8 @@ value-in-requires c κs = search needs
 
 emit-ld-dw-imm-requires : tie.Need-emit-ld-dw-imm-requires
 emit-ld-dw-imm-requires c κs =
-    let read = c .before .before .before in
-    let given = fields (read .before .before .before .before .before .before .before .before .pre .0 .0) (read .insn-at .ensures) in
+    let earlier = c .before .before .before .before .before .before .before .before .before .before .before .before .before in
+    let given = fields (earlier .pre .0 .0) (c .before .before .before .insn-at .ensures) in
     search needs
 
 onward-requires : tie.Need-onward-requires
@@ -42,9 +42,9 @@ insn-at-requires-2 c κs = search needs
 
 emit-muldivmod-requires : tie.Need-emit-muldivmod-requires
 emit-muldivmod-requires c κs =
-    let matched = c .before .before .before .before .before .before .before in
-    let pre = matched .before .before .before .before .before .before .before .pre in
-    let kind = kind-at (pre .0 .0) (matched .match .keys2) in
+    let earlier = c .before .before .before .before .before .before .before .before .before .before .before .before .before .before .before .before .before .before in
+    let pre = earlier .pre in
+    let kind = kind-at (pre .0 .0) (c .before .before .before .before .before .before .before .before .before .match .keys2) in
     let insn-at = c .insn-at2 .ensures in
     let read = fields (pre .0 .0) insn-at in
     let mul-of = c .before .before .before .mul-of .ensures in
@@ -55,9 +55,9 @@ insn-at-requires-3 c κs = search needs
 
 emit-ja-requires : tie.Need-emit-ja-requires
 emit-ja-requires c κs =
-    let matched = c .before .before .before .before in
-    let pre = matched .before .before .before .before .before .before .before .pre in
-    (rw (kind-at (pre .0 .0) (matched .match .keys3), ← c .insn-at3 .ensures) at (pre .1), pre .0 .1 .0)
+    let earlier = c .before .before .before .before .before .before .before .before .before .before .before .before .before .before .before in
+    let pre = earlier .pre in
+    (rw (kind-at (pre .0 .0) (c .before .before .before .before .before .before .match .keys3), ← c .insn-at3 .ensures) at (pre .1), pre .0 .1 .0)
 
 width-of-requires-2 : tie.Need-width-of-requires-2
 width-of-requires-2 c κs = search needs
@@ -70,9 +70,9 @@ insn-at-requires-4 c κs = search needs
 
 emit-jump-requires : tie.Need-emit-jump-requires
 emit-jump-requires c κs =
-    let matched = c .before .before .before .before .before .before in
-    let pre = matched .before .before .before .before .before .before .before .pre in
-    let kind = kind-at (pre .0 .0) (matched .match .keys4) in
+    let earlier = c .before .before .before .before .before .before .before .before .before .before .before .before .before .before .before .before .before in
+    let pre = earlier .pre in
+    let kind = kind-at (pre .0 .0) (c .before .before .before .before .before .before .before .before .match .keys4) in
     let insn-at = c .insn-at4 .ensures in
     let read = fields (pre .0 .0) insn-at in (
       rw (kind, ← c .before .before .width-of2 .ensures, ← c .before .source-of2 .ensures, ← insn-at, ← read .opc-is) at (pre .1),
@@ -90,17 +90,17 @@ value-in-requires-2 c κs = search needs
 
 emit-call-requires : tie.Need-emit-call-requires
 emit-call-requires c κs =
-    let matched = c .before .before .before .before .before .before in
-    let pre = matched .before .before .before .before .before .before .before .pre in
-    let kind = kind-at (pre .0 .0) (matched .match .keys5) in
-    let insn-at = c .before .before .before .before .before .insn-at5 .ensures in
-    let call-operand = c .before .before .before .before .call-operand .ensures in
-    (rw (kind, ← insn-at, ← call-operand, ← c .before .before .before .value-in2 .ensures) at (pre .1), pre .0 .1 .0)
+    let earlier = c .before .before .before .before .before .before .before .before .before .before .before .before .before .before .before .before .before in
+    let pre = earlier .pre in
+    let kind = kind-at (pre .0 .0) (c .before .before .before .before .before .before .before .before .match .keys5) in
+    let insn-at = c .before .before .before .before .before .before .before .insn-at5 .ensures in
+    let call-operand = c .before .before .before .before .before .before .call-operand .ensures in
+    (rw (kind, ← insn-at, ← call-operand, ← c .before .before .before .before .before .value-in2 .ensures) at (pre .1), pre .0 .1 .0)
 
 emit-plain-requires : tie.Need-emit-plain-requires
 emit-plain-requires c κs =
-    let args = c .before .before .before .before .before .before .before .before .args in
-    let pre = c .before .before .before .before .before .before .before .before .pre in
+    let args = c .before .before .before .before .before .before .before .before .before .before .args in
+    let pre = c .before .before .before .before .before .before .before .before .before .before .pre in
     let behind = readAt (args .prog .now) (args .slot .number + 1) in
     let other = other (c .before .match .rest) in
     let plain = others (args .ids .now) (args .addresses .now) (args .slot .number) _ behind (pre .0 .0 .numbered) other in
@@ -114,12 +114,11 @@ same-length c = search needs
 
 returns : tie.Need-returns
 returns c =
-    let read = c .before .before .before .before .before .before .before in
-    let matched = read .before in
-    let kind = kind-at (matched .before .before .before .before .before .before .before .pre .0 .0) (matched .match .keys1) in
+    let earlier = c .before .before .before .before .before .before .before .before .before .before .before .before .before .before .before .before .before in
+    let kind = kind-at (earlier .pre .0 .0) (c .before .before .before .before .before .before .before .before .match .keys1) in
     let value-in = c .before .before .before .before .before .value-in in
-    rw (kind, ← read .insn-at .ensures, ← c .before .before .before .before .before .before .wide-operand .ensures, ← value-in .ensures)
-    (onwards (slotCode LdDwImm 0 (read .insn-at .result) (value-in .result)) refl (c .before .before .before .emit-ld-dw-imm .ensures) (c .onward .ensures))
+    rw (kind, ← c .before .before .before .before .before .before .before .insn-at .ensures, ← c .before .before .before .before .before .before .wide-operand .ensures, ← value-in .ensures)
+    (onwards (slotCode LdDwImm 0 (c .before .before .before .before .before .before .before .insn-at .result) (value-in .result)) refl (c .before .before .before .emit-ld-dw-imm .ensures) (c .onward .ensures))
 
 same-length-2 : tie.Need-same-length-2
 same-length-2 c = search needs
@@ -130,30 +129,23 @@ same-length-3 c = search needs
 same-length-4 : tie.Need-same-length-4
 same-length-4 c = search needs
 
-returns-2 : tie.Need-returns-2
-returns-2 c =
-    let read = c .before .before .before .before .before .before .before in
-    let matched = read .before .before .before .before .before .before .before in
-    let kind = kind-at (matched .before .before .before .before .before .before .before .pre .0 .0) (matched .match .keys2) in
-    let mul-of = read .before .before .before .mul-of .ensures in
-    rw (kind, ← mul-of, ← read .before .before .width-of .ensures, ← read .before .source-of .ensures, ← read .insn-at2 .ensures)
-    (c .before .before .before .before .before .before .emit-muldivmod .ensures)
-
 same-length-5 : tie.Need-same-length-5
 same-length-5 c = search needs
 
 same-length-6 : tie.Need-same-length-6
 same-length-6 c = search needs
 
+returns-2 : tie.Need-returns-2
+returns-2 c =
+    let earlier = c .before .before .before .before .before .before .before .before .before .before .before .before in
+    let further = earlier .before .before .before .before .before .before .before .before .before .before .before .before .before .before .before .before .before in
+    let kind = kind-at (further .pre .0 .0) (earlier .before .before .before .before .before .before .before .before .match .keys2) in
+    let mul-of = earlier .before .before .mul-of .ensures in
+    rw (kind, ← mul-of, ← earlier .before .width-of .ensures, ← earlier .source-of .ensures, ← c .before .before .before .before .before .before .before .before .before .before .before .insn-at2 .ensures)
+    (c .before .before .before .before .before .before .before .before .before .before .emit-muldivmod .ensures)
+
 same-length-7 : tie.Need-same-length-7
 same-length-7 c = search needs
-
-returns-3 : tie.Need-returns-3
-returns-3 c =
-    let read = c .before .before .before .before .before .before .before in
-    let matched = read .before .before .before .before in
-    let kind = kind-at (matched .before .before .before .before .before .before .before .pre .0 .0) (matched .match .keys3) in
-    rw (kind, ← read .insn-at3 .ensures) (c .before .before .before .before .before .before .emit-ja .ensures)
 
 same-length-8 : tie.Need-same-length-8
 same-length-8 c = search needs
@@ -164,18 +156,14 @@ same-length-9 c = search needs
 same-length-10 : tie.Need-same-length-10
 same-length-10 c = search needs
 
-returns-4 : tie.Need-returns-4
-returns-4 c =
-    let read = c .before .before .before .before .before .before .before in
-    let matched = read .before .before .before .before .before .before in
-    let slot = matched .before .before .before .before .before .before .before .pre .0 .0 in
-    let kind = kind-at slot (matched .match .keys4) in
-    let opc-is = fields slot (read .insn-at4 .ensures) .opc-is in
-    rw (kind, ← read .before .before .width-of2 .ensures, ← read .before .source-of2 .ensures, ← read .insn-at4 .ensures, ← opc-is)
-    (c .before .before .before .before .before .before .emit-jump .ensures)
-
 same-length-11 : tie.Need-same-length-11
 same-length-11 c = search needs
+
+returns-3 : tie.Need-returns-3
+returns-3 c =
+    let earlier = c .before .before .before .before .before .before .before .before .before .before .before .before .before .before .before .before .before in
+    let kind = kind-at (earlier .before .before .before .before .before .before .before .before .before .pre .0 .0) (earlier .match .keys3) in
+    rw (kind, ← c .before .before .before .before .before .before .before .before .before .before .before .insn-at3 .ensures) (c .before .before .before .before .before .before .before .before .before .before .emit-ja .ensures)
 
 same-length-12 : tie.Need-same-length-12
 same-length-12 c = search needs
@@ -183,21 +171,56 @@ same-length-12 c = search needs
 same-length-13 : tie.Need-same-length-13
 same-length-13 c = search needs
 
-returns-5 : tie.Need-returns-5
-returns-5 c =
-    let valued = c .before .before .before .before .before .before .before .before .before .before in
-    let matched = valued .before .before .before in
-    let kind = kind-at (matched .before .before .before .before .before .before .before .pre .0 .0) (matched .match .keys5) in
-    let insn-at = valued .before .before .insn-at5 .ensures in
-    rw (kind, ← insn-at, ← valued .before .call-operand .ensures, ← valued .value-in2 .ensures) (c .before .before .before .before .before .before .emit-call .ensures)
-
 same-length-14 : tie.Need-same-length-14
 same-length-14 c = search needs
 
+same-length-15 : tie.Need-same-length-15
+same-length-15 c = search needs
+
+same-length-16 : tie.Need-same-length-16
+same-length-16 c = search needs
+
+returns-4 : tie.Need-returns-4
+returns-4 c =
+    let earlier = c .before .before .before .before .before .before .before .before .before .before .before .before in
+    let further = earlier .before .before .before .before .before .before .before .before .before .before .before .before .before .before .before .before in
+    let slot = further .pre .0 .0 in
+    let kind = kind-at slot (earlier .before .before .before .before .before .before .before .match .keys4) in
+    let opc-is = fields slot (c .before .before .before .before .before .before .before .before .before .before .before .insn-at4 .ensures) .opc-is in
+    rw (kind, ← earlier .before .width-of2 .ensures, ← earlier .source-of2 .ensures, ← c .before .before .before .before .before .before .before .before .before .before .before .insn-at4 .ensures, ← opc-is)
+    (c .before .before .before .before .before .before .before .before .before .before .emit-jump .ensures)
+
+same-length-17 : tie.Need-same-length-17
+same-length-17 c = search needs
+
+same-length-18 : tie.Need-same-length-18
+same-length-18 c = search needs
+
+same-length-19 : tie.Need-same-length-19
+same-length-19 c = search needs
+
+same-length-20 : tie.Need-same-length-20
+same-length-20 c = search needs
+
+same-length-21 : tie.Need-same-length-21
+same-length-21 c = search needs
+
+returns-5 : tie.Need-returns-5
+returns-5 c =
+    let earlier = c .before .before .before .before .before .before .before .before .before .before .before .before .before .before .before .before in
+    let further = earlier .before .before .before .before .before .before .before .before .before .before .before .before in
+    let kind = kind-at (further .pre .0 .0) (earlier .before .before .before .match .keys5) in
+    let insn-at = earlier .before .before .insn-at5 .ensures in
+    rw (kind, ← insn-at, ← earlier .before .call-operand .ensures, ← earlier .value-in2 .ensures) (c .before .before .before .before .before .before .before .before .before .before .emit-call .ensures)
+
+same-length-22 : tie.Need-same-length-22
+same-length-22 c = search needs
+
 returns-6 : tie.Need-returns-6
 returns-6 c =
-    let args = c .before .before .before .before .before .before .before .before .before .before .before .before .args in
-    let pre = c .before .before .before .before .before .before .before .before .before .before .before .before .pre in
+    let earlier = c .before .before .before .before .before .before .before .before .before .before .before .before .before .before in
+    let args = earlier .args in
+    let pre = earlier .pre in
     let behind = readAt (args .prog .now) (args .slot .number + 1) in
     let other = other (c .before .before .before .before .before .match .rest) in
     let plain = others (args .ids .now) (args .addresses .now) (args .slot .number) _ behind (pre .0 .0 .numbered) other in
@@ -234,18 +257,26 @@ emit-slot-spec =
     same-length-2
     same-length-3
     same-length-4
-    returns-2
     same-length-5
     same-length-6
+    returns-2
     same-length-7
-    returns-3
     same-length-8
     same-length-9
     same-length-10
-    returns-4
     same-length-11
+    returns-3
     same-length-12
     same-length-13
-    returns-5
     same-length-14
+    same-length-15
+    same-length-16
+    returns-4
+    same-length-17
+    same-length-18
+    same-length-19
+    same-length-20
+    same-length-21
+    returns-5
+    same-length-22
     returns-6)

@@ -6,10 +6,10 @@ use Rattle.listing_table.proofs.table.list_all_slots.Statement.{stateme
 use Rattle.listing_table.proofs.table.list_all_slots.Tie as tie
 
 abbrev Inv-loop : tie.InvT-loop
-Inv-loop line₀ prog code locations fields targets totals slots slot₀ line slot = (length line ≡ length line₀) × (slot ≤ slots)
+Inv-loop line₀ prog code locations targets kinds makers totals slots slot₀ line slot = (length line ≡ length line₀) × (slot ≤ slots)
 
 abbrev μ-loop : tie.MeasureT-loop
-μ-loop line₀ prog code locations fields targets totals slots slot₀ line slot = slots - slot
+μ-loop line₀ prog code locations targets kinds makers totals slots slot₀ line slot = slots - slot
 
 loop-holds : tie.Need-loop-holds Inv-loop μ-loop
 loop-holds c = search needs

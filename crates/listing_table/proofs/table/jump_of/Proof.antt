@@ -1,13 +1,13 @@
 use Prim.Native.Nat.{_≤_, _-_}
 use borrow.Author.Needs.{needs}
-use Rattle.listing_table.proofs.table.jump_between.Statement.{statement}
-use Rattle.listing_table.proofs.table.jump_between.Tie as tie
+use Rattle.listing_table.proofs.table.jump_of.Statement.{statement}
+use Rattle.listing_table.proofs.table.jump_of.Tie as tie
 
 abbrev Inv-loop : tie.InvT-loop
-Inv-loop fields jumps from to j₀ j = 0 ≤ j
+Inv-loop makers jumps maker j₀ j = 0 ≤ j
 
 abbrev μ-loop : tie.MeasureT-loop
-μ-loop fields jumps from to j₀ j = jumps - j
+μ-loop makers jumps maker j₀ j = jumps - j
 
 loop-holds : tie.Need-loop-holds Inv-loop μ-loop
 loop-holds c = search needs
@@ -30,8 +30,8 @@ loop-again c = search needs
 returns-2 : tie.Need-returns-2 Inv-loop μ-loop
 returns-2 c = search needs
 
-pub jump-between-spec : {M : Type 1} → statement M
-jump-between-spec =
+pub jump-of-spec : {M : Type 1} → statement M
+jump-of-spec =
     tie.close
     (tie.spec
     Inv-loop
