@@ -19,7 +19,8 @@ write-end-requires c κs =
 
 add-length : tie.Need-add-length
 add-length c =
-    let at-write-begin = c .before .before .before .before .before .before .before .before .before .before .before .before .before .before .before .before .before .before .before .before .before .before in
+    let at-write-end = c .before .before .before .before .before in
+    let at-write-begin = at-write-end .before .before .before .before .before .before .before .before .before .before .before .before .before .before .before .before .before in
     let start = at-write-begin .before .before .before .before .before .before .before .before .before .before .before .before .before .before .before .before in
     let good = start .pre .1 in
     omega (
@@ -48,11 +49,11 @@ same-length-6 c = search needs
 
 returns : tie.Need-returns
 returns c =
-    let at-write-begin = c .before .before .before .before .before .before .before .before .before .before .before .before .before .before .before .before .before .before .before .before .before .before in
+    let at-write-end = c .before .before .before .before .before in
+    let at-write-begin = at-write-end .before .before .before .before .before .before .before .before .before .before .before .before .before .before .before .before .before in
     let start = at-write-begin .before .before .before .before .before .before .before .before .before .before .before .before .before .before .before .before in
     let good = start .pre .1 in
-    let begun = at-write-begin .write-begin .ensures in
-    let at-write-end = c .before .before .before .before .before in (
+    let begun = at-write-begin .write-begin .ensures in (
       written good begun refl refl (record { fields = refl; targets = refl; kinds = refl; makers = refl })
           (at-write-begin .write-begin .kept .1 .1 .1 .1 .1 .0) (at-write-end .write-end .ensures),
       named good begun refl refl (record { fields = refl; targets = refl; kinds = refl; makers = refl }),

@@ -117,8 +117,9 @@ returns c =
     let earlier = c .before .before .before .before .before .before .before .before .before .before .before .before .before .before .before .before .before in
     let kind = kind-at (earlier .pre .0 .0) (c .before .before .before .before .before .before .before .before .match .keys1) in
     let value-in = c .before .before .before .before .before .value-in in
-    rw (kind, ← c .before .before .before .before .before .before .before .insn-at .ensures, ← c .before .before .before .before .before .before .wide-operand .ensures, ← value-in .ensures)
-    (onwards (slotCode LdDwImm 0 (c .before .before .before .before .before .before .before .insn-at .result) (value-in .result)) refl (c .before .before .before .emit-ld-dw-imm .ensures) (c .onward .ensures))
+    let insn-at = c .before .before .before .before .before .before .before .insn-at in
+    rw (kind, ← insn-at .ensures, ← c .before .before .before .before .before .before .wide-operand .ensures, ← value-in .ensures)
+    (onwards (slotCode LdDwImm 0 (insn-at .result) (value-in .result)) refl (c .before .before .before .emit-ld-dw-imm .ensures) (c .onward .ensures))
 
 same-length-2 : tie.Need-same-length-2
 same-length-2 c = search needs
@@ -137,12 +138,13 @@ same-length-6 c = search needs
 
 returns-2 : tie.Need-returns-2
 returns-2 c =
-    let earlier = c .before .before .before .before .before .before .before .before .before .before .before .before in
+    let emitted = c .before .before .before .before .before .before .before .before .before .before in
+    let earlier = emitted .before .before in
     let further = earlier .before .before .before .before .before .before .before .before .before .before .before .before .before .before .before .before .before in
     let kind = kind-at (further .pre .0 .0) (earlier .before .before .before .before .before .before .before .before .match .keys2) in
     let mul-of = earlier .before .before .mul-of .ensures in
-    rw (kind, ← mul-of, ← earlier .before .width-of .ensures, ← earlier .source-of .ensures, ← c .before .before .before .before .before .before .before .before .before .before .before .insn-at2 .ensures)
-    (c .before .before .before .before .before .before .before .before .before .before .emit-muldivmod .ensures)
+    rw (kind, ← mul-of, ← earlier .before .width-of .ensures, ← earlier .source-of .ensures, ← emitted .before .insn-at2 .ensures)
+    (emitted .emit-muldivmod .ensures)
 
 same-length-7 : tie.Need-same-length-7
 same-length-7 c = search needs
@@ -161,9 +163,10 @@ same-length-11 c = search needs
 
 returns-3 : tie.Need-returns-3
 returns-3 c =
-    let earlier = c .before .before .before .before .before .before .before .before .before .before .before .before .before .before .before .before .before in
+    let emitted = c .before .before .before .before .before .before .before .before .before .before in
+    let earlier = emitted .before .before .before .before .before .before .before in
     let kind = kind-at (earlier .before .before .before .before .before .before .before .before .before .pre .0 .0) (earlier .match .keys3) in
-    rw (kind, ← c .before .before .before .before .before .before .before .before .before .before .before .insn-at3 .ensures) (c .before .before .before .before .before .before .before .before .before .before .emit-ja .ensures)
+    rw (kind, ← emitted .before .insn-at3 .ensures) (emitted .emit-ja .ensures)
 
 same-length-12 : tie.Need-same-length-12
 same-length-12 c = search needs
@@ -182,13 +185,14 @@ same-length-16 c = search needs
 
 returns-4 : tie.Need-returns-4
 returns-4 c =
-    let earlier = c .before .before .before .before .before .before .before .before .before .before .before .before in
+    let emitted = c .before .before .before .before .before .before .before .before .before .before in
+    let earlier = emitted .before .before in
     let further = earlier .before .before .before .before .before .before .before .before .before .before .before .before .before .before .before .before in
     let slot = further .pre .0 .0 in
     let kind = kind-at slot (earlier .before .before .before .before .before .before .before .match .keys4) in
-    let opc-is = fields slot (c .before .before .before .before .before .before .before .before .before .before .before .insn-at4 .ensures) .opc-is in
-    rw (kind, ← earlier .before .width-of2 .ensures, ← earlier .source-of2 .ensures, ← c .before .before .before .before .before .before .before .before .before .before .before .insn-at4 .ensures, ← opc-is)
-    (c .before .before .before .before .before .before .before .before .before .before .emit-jump .ensures)
+    let insn-at = emitted .before .insn-at4 .ensures in
+    let opc-is = fields slot insn-at .opc-is in
+    rw (kind, ← earlier .before .width-of2 .ensures, ← earlier .source-of2 .ensures, ← insn-at, ← opc-is) (emitted .emit-jump .ensures)
 
 same-length-17 : tie.Need-same-length-17
 same-length-17 c = search needs
@@ -207,11 +211,12 @@ same-length-21 c = search needs
 
 returns-5 : tie.Need-returns-5
 returns-5 c =
-    let earlier = c .before .before .before .before .before .before .before .before .before .before .before .before .before .before .before .before in
+    let emitted = c .before .before .before .before .before .before .before .before .before .before in
+    let earlier = emitted .before .before .before .before .before .before in
     let further = earlier .before .before .before .before .before .before .before .before .before .before .before .before in
     let kind = kind-at (further .pre .0 .0) (earlier .before .before .before .match .keys5) in
     let insn-at = earlier .before .before .insn-at5 .ensures in
-    rw (kind, ← insn-at, ← earlier .before .call-operand .ensures, ← earlier .value-in2 .ensures) (c .before .before .before .before .before .before .before .before .before .before .emit-call .ensures)
+    rw (kind, ← insn-at, ← earlier .before .call-operand .ensures, ← earlier .value-in2 .ensures) (emitted .emit-call .ensures)
 
 same-length-22 : tie.Need-same-length-22
 same-length-22 c = search needs

@@ -38,11 +38,11 @@ number-in-requires c κs = search needs
 
 emit-slot-requires : tie.Need-emit-slot-requires Inv-loop μ-loop
 emit-slot-requires c κs =
-    let earlier = c .before .before .before .before .before .before .before .before .before .before .before .before .before .before .before .before .before .before .before .before .before in
-    let pre = earlier .pre in
-    let inv = c .before .before .before .before .before .before .before .before .before .before .before .loop .inv in
+    let begun = c .before .before .before .before .before .before .before .before .before .before .before in
+    let pre = begun .before .before .before .before .before .before .before .before .before .before .pre in
+    let inv = begun .loop .inv in
     let test = c .before .before .before .before .before .before .before .before .before .if1 .taken in
-    let byte = c .before .before .before .before .before .before .before .shared-slice-known4 .given (8 * c .before .before .before .before .before .before .before .before .before .before .before .loop .next .number) in
+    let byte = c .before .before .before .before .before .before .before .shared-slice-known4 .given (8 * begun .loop .next .number) in
     let number-in = c .before .before .before .before .before .before .number-in .ensures in (
       (next-slot inv (pre .1 .fits) test (omega (arith, byte)) number-in, (omega (arith, pre .0, test), pre .0 .1 .1 .1 .1)),
       next-room inv (pre .1 .fits) test (pre .0 .1 .1 .0) (pre .1 .page-is) (pre .1 .entry),
