@@ -1,7 +1,7 @@
 #!/usr/bin/env python3
 """Prints the bench's tables, in Markdown, from its rows, icount.c's counts and, where there are some, its times; then a summary.
 
-    bench/table.py ROWS COUNTS HASHLESS-COUNTS [TIMES]
+    bench/table.py ROWS COUNTS HASHLESS-COUNTS MODES-ROWS MODES-COUNTS [TIMES]
 
 DPDK's columns stand where the counts have some of its JIT. The last line is `ratio R`: this library's instructions over the Rust's on the
 corpus.
@@ -21,7 +21,7 @@ TITLES = [
 ]
 
 # A row's labels in the counts, from its own: as src/measure.rs marks them.
-RUST, OURS, DPDK, OURS_BESIDE_DPDK = range(4)
+RUST, OURS, DPDK, OURS_BESIDE_DPDK, OURS_IN_STANDARD_MODE = range(5)
 
 
 # ---- what the files say ----------------------------------------------------------------------------------------------------------------
@@ -111,6 +111,8 @@ SUMMARY_ROWS = [
     "2048 slots, refused at the last",
     "the corpus's accepted programs",
 ]
+FILTERS = "the real filters"
+MODE_ROWS = [*SUMMARY_ROWS, FILTERS, "LE 16", "MOV32_REG", "MOD32_REG"]
 
 
 class Table:
@@ -186,7 +188,7 @@ class Bench:
         figures = {name: self.named(name) for name in SUMMARY_ROWS}
         filters = self.shown("filters")
         if filters:
-            figures["the real filters"] = sums(filters)
+            figures[FILTERS] = sums(filters)
         self.show_columns(SUMMARY_COLUMNS, figures)
         in_part = {name: row for name, row in figures.items() if 0 < row.dpdk_programs < row.programs}
         if in_part:
@@ -198,18 +200,35 @@ class Bench:
         return ratio(corpus.ours, corpus.rust)
 
 
+def show_modes(rows, counts):
+    """Ours without standard mode and in it, on the programs that have the same verdict in both."""
+    figures = {}
+    for label, row in rows.items():
+        name = FILTERS if row.table == "filters" else row.name
+        if name in MODE_ROWS:
+            off, on = (counts.instructions[label + mode] for mode in (OURS, OURS_IN_STANDARD_MODE))
+            figures.setdefault(name, Counter()).update(programs=row.programs, slots=row.slots, off=off, on=on)
+    view = Table("standard mode", "programs", "slots", "off", "on", "off, a slot", "on, a slot")
+    for name, row in figures.items():
+        a_slot = [f"{row[mode] / row['slots']:.2f}" for mode in ("off", "on")]
+        view.add(name, *[row[column] for column in ("programs", "slots", "off", "on")], *a_slot)
+    view.show()
+
+
 def sums(figures):
     return Figures(*map(sum, zip(*figures.values())))
 
 
 def main():
-    times = rows_of(sys.argv[4]) if len(sys.argv) > 4 else {}
-    bench = Bench(rows_of(sys.argv[1]), Counts(sys.argv[2]), Counts(sys.argv[3]), times)
+    rows, counts, hashless, modes_rows, modes_counts, *times = sys.argv[1:]
+    bench = Bench(rows_of(rows), Counts(counts), Counts(hashless), rows_of(times[0]) if times else {})
     for table, title in TITLES:
         print(f"\n{title}:\n")
         bench.show(table)
     print("\nOurs, by pass:\n")
     bench.passes()
+    print("\nOurs, in both modes (without programs that have another verdict in standard mode):\n")
+    show_modes(rows_of(modes_rows), Counts(modes_counts))
     print("\nSummary (on a page of 16384 bytes ours measures the program before it writes it):\n")
     bench.summary()
     print(f"\nratio {bench.corpus()}")

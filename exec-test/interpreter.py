@@ -16,11 +16,15 @@ SIZES = (4, 2, 1, 8)  # section 5, size modifier
 CALL, EXIT = 8, 9  # section 4.3
 FRAME = 512  # bytes of stack for a function; the RFC names no number, compilers and the kernel have this one
 STEPS = 1000000
-KNOWN = {"A1", "A2", "A3", "A4", "A5", "A6", "A8", "A20", "A25", "A26"}
+KNOWN = {"A1", "A2", "A3", "A4", "A5", "A6", "A8", "A9", "A20", "A25", "A26"}
 
 
 class Fault(Exception):
     """The program did what no program may."""
+
+
+class BadSwap(Fault):
+    """A byte swap of a width that there is not."""
 
 
 class Finished(Exception):
@@ -158,11 +162,12 @@ class Run:
 
     def converted(self, opcode, value, bits):
         """Section 4.2, on a little-endian host: LE cuts, BE and the unconditional swap reverse."""
-        if bits not in (16, 32, 64):
-            raise Fault("a swap of %d bits" % bits)
-        if opcode == 0xD4:
-            return value if "A8" in self.as_page else value & (2**bits - 1)
-        return swapped(value, bits)
+        is_le, is_known = opcode == 0xD4, bits in (16, 32, 64)
+        if is_le and ("A8" if is_known else "A9") in self.as_page:
+            return value
+        if not is_known:
+            raise BadSwap("a swap of %d bits" % bits)
+        return value & (2**bits - 1) if is_le else swapped(value, bits)
 
     def jump(self, opcode, bits, dst, src, off, imm):
         code = opcode >> 4

@@ -30,16 +30,17 @@ class Page:
         return "refused:%d:%d" % (self.number, self.slot) if self.number else "accepted"
 
 
-def pages(chosen, packets=(), changes=None, seconds=None):
-    """A Page for each filter, run on the packets; `changes` are the positions of the code bytes that are changed before. A page that was
-    changed may do anything: the loader may fail (CalledProcessError) or never end (TimeoutExpired, after so many seconds)."""
+def pages(mode, chosen, packets=(), changes=None, seconds=None):
+    """A Page for each filter, translated in the mode and run on the packets; `changes` are the positions of the code bytes that are changed
+    before. A page that was changed may do anything: the loader may fail (CalledProcessError) or never end (TimeoutExpired, after so many
+    seconds)."""
     def counted(data):
         return struct.pack("<I", len(data)) + data
 
-    given = struct.pack("<I", len(packets)) + b"".join(counted(p) for p in packets)
+    given = bytearray(struct.pack("<I", len(packets)) + b"".join(counted(p) for p in packets))
     for f, change in zip(chosen, changes or [NO_CHANGE] * len(chosen)):
-        given += struct.pack("<III%dI" % len(f.helpers), f.flags(), f.page, len(f.helpers), *f.helpers) + counted(f.bytecode())
-        given += struct.pack("<I", change)
+        given += struct.pack("<III%dI" % len(f.helpers), f.flags() | mode.flags, f.page, len(f.helpers), *f.helpers)
+        given += counted(f.bytecode()) + struct.pack("<I", change)
     output = subprocess.run(loader(), input=given, stdout=subprocess.PIPE, check=True, timeout=seconds).stdout
     out, at = [], 0
     for _ in chosen:

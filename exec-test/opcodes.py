@@ -1,10 +1,11 @@
-"""Runs each opcode that the translator accepts on boundary values, in the page, in the interpreter of RFC 9669 and in the Linux kernel.
-`exec-test/opcodes` starts it.
+"""Runs each opcode that the translator accepts on boundary values, in the pages of both modes, in the interpreter of RFC 9669 and in the
+Linux kernel. `exec-test/opcodes` starts it.
 
 Every program sets r0 to r9, has one instruction, and folds all registers into r0, so that an instruction that changes more than its
 destination is seen too. Left out are what filters run already: calls, EXIT, and the loads from classic BPF. The page has to give what the
-interpreter gives with the differences of EXPECTED; without them the interpreter has to part from the page in these instructions and no
-others, and to agree with the kernel in all. Prints a line for each kind of instruction; the last line is 'N passed, M failed'.
+interpreter gives with the mode's differences of EXPECTED; without them the interpreter has to part from the page in these instructions and
+no others, and to agree with the kernel in all. A swap of a width that the RFC does not know has to be refused. Prints, for each mode, a line
+for each kind of instruction and the sums; the last line is 'N passed, M failed', a kind in a mode being one.
 """
 
 import os
@@ -16,8 +17,9 @@ HERE = os.path.dirname(os.path.abspath(__file__))
 sys.path.insert(0, HERE)
 
 import kernel
-from interpreter import Fault, Memory, Run
+from interpreter import BadSwap, Fault, Memory, Run
 from loader import pages
+from modes import MODES
 
 STACK_TOP = 0x70000000
 PACKET = bytes(64)
@@ -25,15 +27,16 @@ MUL_64, ADD_64_X, MOV_64, EXIT, WIDE, JA = 0x27, 0x0F, 0xB7, 0x95, 0x18, 0x05
 NAMES = ["ADD", "SUB", "MUL", "DIV", "OR", "AND", "LSH", "RSH", "NEG", "MOD", "XOR", "MOV", "ARSH"]
 CONDITIONS = {1: "JEQ", 2: "JGT", 3: "JGE", 4: "JSET", 5: "JNE", 6: "JSGT", 7: "JSGE", 10: "JLT", 11: "JLE", 12: "JSLT", 13: "JSLE"}
 NEG, MOV = 8, 11
+BAD_SWAP = 10  # the refusal
 EDGES = [0, 1, 0x80, 0xFFFF, 0x7FFFFFFF, 0x80000000, 0x100000000, 0x7FFFFFFFFFFFFFFF, 0x8000000000000001, 0xFFFFFFFFFFFFFFFF]
 CONSTANTS = [0, 1, 31, 64, 255, 0x7FFFFFFF, -0x80000000, -1]
+NO_WIDTHS = [0, 8, 24, 48, 128, -16]
 
-# The instructions in which the page parts from the RFC: entries of docs/DIFFERENCES.md.
+# The instructions in which rbpf's page parts from the RFC: entries of docs/DIFFERENCES.md.
 EXPECTED = {"MOV32 X": "A1", "MOD32 K": "A2", "MOD32 X": "A3", "DIV32 K signed": "A4", "DIV32 X signed": "A4", "DIV64 K signed": "A4",
             "DIV64 X signed": "A4", "MOD32 K signed": "A5", "MOD32 X signed": "A5", "MOD64 K signed": "A5", "MOD64 X signed": "A5",
             "MOV32 X from 8": "A6", "MOV32 X from 16": "A6", "MOV64 X from 8": "A6", "MOV64 X from 16": "A6", "MOV64 X from 32": "A6",
-            "LE 16": "A8", "LE 32": "A8"}
-DIFFERENCES = sorted(set(EXPECTED.values()))
+            "LE 16": "A8", "LE 32": "A8", "LE other": "A9"}
 
 rng = random.Random(9669)
 
@@ -105,6 +108,7 @@ def arithmetic():
     for opcode, name in ((0xD4, "LE"), (0xDC, "BE")):
         for width in (16, 32, 64):
             yield from by_constant("%s %d" % (name, width), opcode, constants=[width])
+        yield from by_constant(name + " other", opcode, constants=NO_WIDTHS)
 
 
 def jumps():
@@ -135,66 +139,87 @@ def accesses():
 
 
 def interpreted(case, differences=()):
+    """r0; or the refusal that a page gets for what the RFC gives no meaning."""
+    run = Run(case.program, Memory([]), STACK_TOP, {}, (0, 0), differences)
     try:
-        return Run(case.program, Memory([]), STACK_TOP, {}, (0, 0), differences).result(0)
+        return run.result(0)
+    except BadSwap:
+        return "refused:%d:%d" % (BAD_SWAP, run.pc - 1)
     except Fault as why:
         return str(why)
 
 
 def in_kernel(case):
-    """The kernel's verdict, or None: its verifier takes no division by the constant 0 and no shift by a constant that is too large."""
+    """The kernel's verdict, or None: its verifier takes no division by the constant 0, no shift by a constant that is too large and no swap
+    of another width."""
     try:
         return kernel.verdicts(case.program, False, [PACKET])[0] if kernel.is_allowed() else None
     except kernel.Refused as why:
-        if "div by zero" in str(why) or "invalid shift" in str(why):
+        if any(reason in str(why) for reason in ("div by zero", "invalid shift", "BPF_END uses reserved fields")):
             return None
         raise
 
 
 class Kind:
-    """What came of all cases of one kind."""
+    """What came of all cases of one kind in one mode."""
 
-    def __init__(self, name):
+    def __init__(self, name, mode):
         self.name, self.cases, self.wrong, self.parted, self.asked, self.unlike_kernel = name, 0, 0, 0, 0, 0
+        self.entry = None if EXPECTED.get(name) in mode.mended else EXPECTED.get(name)
+        self.differences = mode.differences(EXPECTED.values())
 
-    def add(self, case, page):
+    def add(self, case, page, by_rfc, theirs):
         ours = page.verdicts[0] if page.number == 0 else page.answer()
-        by_rfc = interpreted(case)
         self.cases += 1
-        self.wrong += ours != interpreted(case, DIFFERENCES)
+        self.wrong += ours != interpreted(case, self.differences)
         self.parted += ours != by_rfc
-        theirs = in_kernel(case)
         self.asked += theirs is not None
         self.unlike_kernel += theirs is not None and theirs != by_rfc % 2**32
 
     def problems(self):
-        entry = EXPECTED.get(self.name)
         if self.wrong:
             yield "the page differs in %d cases" % self.wrong
-        if self.parted and not entry:
+        if self.parted and not self.entry:
             yield "the page parts from RFC 9669 in %d cases, and no entry is named" % self.parted
-        if entry and not self.parted:
-            yield "%s does not show" % entry
+        if self.entry and not self.parted:
+            yield "%s does not show" % self.entry
         if self.unlike_kernel:
             yield "the kernel differs from the interpreter in %d cases" % self.unlike_kernel
+
+
+def judged(mode, cases, by_rfc, by_kernel):
+    """The kinds; what the RFC and the kernel say of a case is the same in every mode."""
+    kinds = {}
+    for case, page, meant, theirs in zip(cases, pages(mode, cases, [PACKET]), by_rfc, by_kernel):
+        kinds.setdefault(case.kind, Kind(case.kind, mode)).add(case, page, meant, theirs)
+    return kinds.values()
+
+
+def say(mode, kinds):
+    """Prints a line for each kind, and the sums; gives how many kinds failed."""
+    print(mode.name + ":")
+    failed = 0
+    for kind in kinds:
+        problems = list(kind.problems())
+        failed += bool(problems)
+        print("%-16s %4d programs, %4d in the kernel%s" % (kind.name, kind.cases, kind.asked, ", %s in %d" % (
+            kind.entry, kind.parted) if kind.entry else ""))
+        for problem in problems:
+            print("FAILED %s: %s" % (kind.name, problem))
+    parted, asked = sum(bool(kind.parted) for kind in kinds), sum(kind.asked for kind in kinds)
+    print("%s: %d of %d kinds part from RFC 9669; %d programs in the kernel" % (mode.name, parted, len(kinds), asked))
+    return failed
 
 
 def main():
     cases = [case for part in (arithmetic, jumps, accesses) for case in part()]
     print("exec-test: %d programs" % len(cases), file=sys.stderr, flush=True)
-    kinds = {}
-    for case, page in zip(cases, pages(cases, [PACKET])):
-        kinds.setdefault(case.kind, Kind(case.kind)).add(case, page)
-    failed = 0
-    for kind in kinds.values():
-        problems = list(kind.problems())
-        failed += bool(problems)
-        print("%-16s %4d programs, %4d in the kernel%s" % (kind.name, kind.cases, kind.asked, ", %s in %d" % (
-            EXPECTED[kind.name], kind.parted) if kind.name in EXPECTED else ""))
-        for problem in problems:
-            print("FAILED %s: %s" % (kind.name, problem))
-    print("%d programs, %d in the kernel" % (len(cases), sum(kind.asked for kind in kinds.values())))
-    print("%d passed, %d failed" % (len(kinds) - failed, failed))
+    by_rfc, by_kernel = [interpreted(case) for case in cases], [in_kernel(case) for case in cases]
+    tried = failed = 0
+    for mode in MODES:
+        kinds = judged(mode, cases, by_rfc, by_kernel)
+        tried, failed = tried + len(kinds), failed + say(mode, kinds)
+    print("%d passed, %d failed" % (tried - failed, failed))
     sys.exit(1 if failed else 0)
 
 

@@ -3,8 +3,8 @@
    every register that they may change. Numbers are little-endian.
 
    Standard input: the number of packets, each as its length and bytes; then filters until the end, each as flags (bit 0 use_mbuff, bit 1
-   update_data_ptr), the page's bytes, the number of helper ids and the ids, the program's length and bytes, and the position of a code
-   byte to change before the run (ffffffff for none). All numbers have 32 bits.
+   update_data_ptr, bit 2 standard mode), the page's bytes, the number of helper ids and the ids, the program's length and bytes, and the
+   position of a code byte to change before the run (ffffffff for none). All numbers have 32 bits.
    Standard output, for each filter: number, slot, L and J of the answer, 32 bits each; accepted, the L code bytes and then for each packet
    a byte 0, the signal that ended the run, or 255 where registers that a function has to keep were changed, and the 64 bits of r0. A page
    that does not end is not run again: the packets behind get the same byte. */
@@ -199,7 +199,7 @@ static uint8_t *executable(const uint8_t *code, size_t length) {
     return page;
 }
 
-static void try_filter(uint32_t flags, const struct bytes *packets, uint32_t packet_count) {
+static void try_filter(struct ndakoleem_flags flags, const struct bytes *packets, uint32_t packet_count) {
     static uint8_t code[NDAKOLEEM_CODE_MAX];
     static struct ndakoleem_memory memory;
     uint32_t ids[NDAKOLEEM_HELPERS_MAX];
@@ -212,8 +212,7 @@ static void try_filter(uint32_t flags, const struct bytes *packets, uint32_t pac
     struct ndakoleem_buffers lent = ndakoleem_lend(&memory);
     lent.code = code; /* a page may be longer than is enough */
     lent.code_length = page_length;
-    struct ndakoleem_translation t = ndakoleem_translate_into(
-        program.at, program.length, flags & 1, flags >> 1 & 1, ids, helpers, addresses, helpers, &lent);
+    struct ndakoleem_translation t = ndakoleem_translate_into(program.at, program.length, flags, ids, helpers, addresses, helpers, &lent);
     free(program.at);
     uint32_t answer[4] = {t.number, t.slot, t.length, t.jumps};
     write_all(answer, sizeof answer);
@@ -223,7 +222,7 @@ static void try_filter(uint32_t flags, const struct bytes *packets, uint32_t pac
     uint8_t *page = executable(code, t.length);
     for (uint32_t i = 0, end = 0; i < packet_count; i++) {
         if (end == SIGALRM) write_run(end, 0);
-        else end = run(page, flags & 1, packets[i]);
+        else end = run(page, flags.use_mbuff, packets[i]);
     }
 }
 
@@ -239,6 +238,9 @@ int main(void) {
     if (count > MAX_PACKETS) stop("there are too many packets");
     for (uint32_t i = 0; i < count; i++) packets[i] = read_bytes();
     uint32_t flags;
-    while (fread(&flags, 1, 4, stdin) == 4) try_filter(flags, packets, count);
+    while (fread(&flags, 1, 4, stdin) == 4) {
+        struct ndakoleem_flags named = {.use_mbuff = flags & 1, .update_data_ptr = flags & 2, .standard = flags & 4};
+        try_filter(named, packets, count);
+    }
     return 0;
 }

@@ -1,13 +1,15 @@
 """Runs the translated filters of examples/filters on the packets of examples/packets, and compares every verdict with that of engines
 which nobody here wrote, and of an interpreter written from RFC 9669. `exec-test/run` starts it, and has its arguments.
 
-The library translates (runner.c plays the loader), the page is mapped executable and called. Compared with it are, packet by packet: all 64
-bits of r0 of the interpreter (interpreter.py); tcpdump, for the filters that can be said in its language; and the Linux kernel, where it
-lets us (kernel.py). Where the page parts from RFC 9669 in a way that docs/DIFFERENCES.md lists, expected.txt names the entry: then the
-interpreter has to agree in full with that entry, and to disagree without it; the other engines are held to the RFC's verdict.
-The last line is 'N passed, M failed', a filter being one; the status is 1 where one failed.
+The library translates in each mode (runner.c plays the loader), the page is mapped executable and called. Compared with it are, packet by
+packet: all 64 bits of r0 of the interpreter (interpreter.py); tcpdump, for the filters that can be said in its language; and the Linux
+kernel, where it lets us (kernel.py). Where rbpf's page parts from RFC 9669 in a way that docs/DIFFERENCES.md lists, expected.txt names the
+entry. Unless the mode follows the RFC there (modes.py), the interpreter has to agree in full with that entry, and to disagree without it;
+the other engines are held to the RFC's verdict. Prints a table and the sums for each mode; the last line is 'N passed, M failed', a filter in
+a mode being one, and the status is 1 where one failed.
 """
 
+import functools
 import os
 import re
 import struct
@@ -24,6 +26,7 @@ from interpreter import Fault, M32, Memory, Run
 from loader import NO_CHANGE, pages
 from machine import fail
 from manifest import filters
+from modes import MODES, RBPF
 
 # As in runner.c.
 PACKET_END, MBUFF_END = 0x30010000, 0x20001000
@@ -51,15 +54,15 @@ def expectations():
     return out
 
 
-def expected_of(f, table):
-    """The line of the filter, or that of its source."""
+def expected_of(f, mode, table):
+    """The line of the filter, or that of its source, for a mode."""
     name = f.name.split("@")[0]
     differences, expression = table.get(name) or table.get(name.split(".")[0]) or fail("expected.txt has no line for %s" % f.name)
     if expression and "HOSTS" in expression:
         with open(os.path.join(FILTERS, f.source)) as file:
             listed = re.findall(r" S\((\d+), (\d+), (\d+), (\d+)\)", file.read())
         expression = expression.replace("HOSTS", " or ".join("host " + ".".join(address) for address in listed))
-    return differences, expression
+    return mode.differences(differences), expression
 
 
 # The helpers, as examples/filters/README.md has them.
@@ -89,7 +92,11 @@ def csum_diff(memory, source, source_size, target, target_size, seed):
 HELPERS = {SUBSCRIBED: is_subscribed, MIX: mix, CSUM_DIFF: csum_diff}
 
 
-def interpreted(f, packets, differences=()):
+# What the other engines say of a filter, once for both modes.
+
+
+@functools.cache
+def interpreted(f, packets, differences):
     """r0 for each packet, or the Fault's text."""
     out, program = [], f.bytecode()
     for packet in packets:
@@ -105,6 +112,7 @@ def interpreted(f, packets, differences=()):
     return out
 
 
+@functools.cache
 def dumped(expression, times):
     """Whether tcpdump keeps each packet, None where it is not asked. No two packets have the same time."""
     if expression is None:
@@ -117,6 +125,7 @@ def dumped(expression, times):
     return [time in kept for time in times]
 
 
+@functools.cache
 def in_kernel(f, packets):
     """The kernel's verdicts, None for each that it does not give. It has helpers of its own, of which one is also one of ours."""
     if set(f.helpers) - {CSUM_DIFF} or not kernel.is_allowed():
@@ -150,8 +159,8 @@ class Judged:
             self.cells += ["-"] * 6
             return
         self.cells += [str(len(packets)), str(sum(is_kept(v) for v in page.verdicts))]
-        by_rfc = interpreted(f, packets)
-        self.hold(page.verdicts, interpreted(f, packets, differences) if differences else by_rfc, "the interpreter")
+        by_rfc = interpreted(f, packets, ())
+        self.hold(page.verdicts, interpreted(f, packets, differences), "the interpreter")
         parts = unlike(page.verdicts, by_rfc)
         self.cells.append("%s on %d" % (",".join(differences), len(parts)) if differences else "-")
         if differences and not parts:
@@ -189,27 +198,36 @@ def arguments():
 def is_seen(f, packets, good, position):
     """Whether a change of the code byte at a position shows, be it by the end of the loader."""
     try:
-        return pages([f], packets, [position], 20)[0].verdicts != good.verdicts
+        return pages(RBPF, [f], packets, [position], 20)[0].verdicts != good.verdicts
     except (subprocess.CalledProcessError, subprocess.TimeoutExpired):
         return True
 
 
 def break_each(chosen, packets):
     seen, tried = 0, 0
-    for f, good in zip(chosen, pages(chosen, packets)):
+    for f, good in zip(chosen, pages(RBPF, chosen, packets)):
         unseen = [n for n in range(good.length) if not is_seen(f, packets, good, n)]
         seen, tried = seen + good.length - len(unseen), tried + good.length
         print("%s: of %d changed bytes %d show; unseen: %s" % (f.name, good.length, good.length - len(unseen), unseen), flush=True)
     print("of %d changed bytes %d show" % (tried, seen))
 
 
-def say_sums(judged):
+HEAD = ["filter", "for", "slots", "L / J", "packets", "kept", "interpreter", "differs", "tcpdump", "kernel"]
+
+
+def say(judged):
+    """Prints the table, what failed, and the sums; gives how many failed."""
+    rows = [HEAD] + [j.cells for j in judged]
+    widths = [max(len(row[k]) for row in rows) for k in range(len(HEAD))]
+    for row in rows:
+        print("  ".join(cell.ljust(width) for cell, width in zip(row, widths)).rstrip())
+    for j in judged:
+        for problem in j.problems:
+            print("FAILED %s: %s" % (j.cells[0], problem))
     for whose in ("the interpreter", "tcpdump", "the kernel"):
         counts = [j.compared[whose] for j in judged if j.compared.get(whose)]
         print("compared with %s: %d verdicts of %d pages" % (whose, sum(counts), len(counts)))
-
-
-HEAD = ["filter", "for", "slots", "L / J", "packets", "kept", "interpreter", "differs", "tcpdump", "kernel"]
+    return sum(bool(j.problems) for j in judged)
 
 
 def main():
@@ -221,19 +239,12 @@ def main():
         return
     if not kernel.is_allowed():
         print("exec-test: the kernel takes no programs from here, so it is not asked")
-    table = expectations()
-    judged = [Judged(f, page, times, packets, expected_of(f, table)) for f, page in zip(chosen, pages(chosen, packets, [change] * len(chosen)))]
-    rows = [HEAD] + [j.cells for j in judged]
-    widths = [max(len(row[k]) for row in rows) for k in range(len(HEAD))]
-    for row in rows:
-        print("  ".join(cell.ljust(width) for cell, width in zip(row, widths)).rstrip())
-    failed = 0
-    for f, j in zip(chosen, judged):
-        failed += bool(j.problems)
-        for problem in j.problems:
-            print("FAILED %s: %s" % (f.name, problem))
-    say_sums(judged)
-    print("%d passed, %d failed" % (len(judged) - failed, failed))
+    table, failed = expectations(), 0
+    for mode in MODES:
+        print(mode.name + ":")
+        ours = pages(mode, chosen, packets, [change] * len(chosen))
+        failed += say([Judged(f, page, times, packets, expected_of(f, mode, table)) for f, page in zip(chosen, ours)])
+    print("%d passed, %d failed" % (len(MODES) * len(chosen) - failed, failed))
     sys.exit(1 if failed else 0)
 
 

@@ -5,7 +5,8 @@
  *
  *     static struct ndakoleem_memory memory;
  *     struct ndakoleem_buffers lent = ndakoleem_lend(&memory);
- *     struct ndakoleem_translation done = ndakoleem_translate_into(program, program_length, true, false, NULL, 0, NULL, 0, &lent);
+ *     struct ndakoleem_flags flags = {.use_mbuff = true};
+ *     struct ndakoleem_translation done = ndakoleem_translate_into(program, program_length, flags, NULL, 0, NULL, 0, &lent);
  *
  * Mapping the page executable stays with the caller: give the code buffer's first `length` bytes to a mapping, then make that one readable
  * and executable. The code is called as `uint64_t f(uint8_t *mbuff, size_t mbuff_length, uint8_t *packet, size_t packet_length,
@@ -54,7 +55,7 @@ enum ndakoleem_number {
     NDAKOLEEM_BAD_REGISTER = 7,      /* a slot names a register above 10                                                          [that slot] */
     NDAKOLEEM_UNKNOWN_OPCODE = 8,    /* a slot's opcode byte is none that is known                                                [that slot] */
     NDAKOLEEM_UNIMPLEMENTED = 9,     /* a 32- or 64-bit atomic add, or a tail call: known, but not translated                     [that slot] */
-    NDAKOLEEM_BAD_SWAP = 10,         /* a byte swap to big-endian of a width other than 16, 32 or 64 bits                         [that slot] */
+    NDAKOLEEM_BAD_SWAP = 10,         /* BE, or in standard mode LE, of a width other than 16, 32 or 64 bits                       [that slot] */
     NDAKOLEEM_UNKNOWN_HELPER = 11,   /* a call of a helper whose id is not in the list                                            [that slot] */
     NDAKOLEEM_BAD_CALL = 12,         /* a call that is neither to a helper nor local (src 2 to 10)                                [that slot] */
     NDAKOLEEM_NO_ROOM = 13,          /* the code runs past the code buffer                  [the slot whose code does, or n for the epilogue] */
@@ -92,6 +93,8 @@ struct ndakoleem_translation {
  *   program              the filter's bytecode
  *   use_mbuff            the filter gets a metadata buffer (mbuff) in r1, and not the packet itself
  *   update_data_ptr      with use_mbuff: the packet's start and end are stored in the mbuff, at the two offsets that the call gives
+ *   standard             standard mode: a 32-bit MOV by register and a 32-bit MOD by zero clear the upper half of dst, and LE 16 and LE 32 keep
+ *                        its low 16 and 32 bits alone, as RFC 9669 has it. Off, as in rbpf, this MOV copies 64 bits, this MOD and LE do nothing
  *   ids, addresses       the helpers that the program may call: a number and a function for each, side by side, no number twice
  *   code                 accepted: its first `length` bytes become the code
  *   locations            accepted: entries 0 to n become the position of each slot's code (0 for a wide load's second slot, and for entry n)
@@ -101,9 +104,9 @@ struct ndakoleem_translation {
  *                        holds it (n for the prologue's jump, which comes first)
  *
  * Everything behind these is left as it was; a refusal changes nothing at all. */
-struct ndakoleem_translation ndakoleem_translate_2(
+struct ndakoleem_translation ndakoleem_translate_3(
     const uint8_t *program, size_t program_length,
-    bool use_mbuff, bool update_data_ptr,
+    bool use_mbuff, bool update_data_ptr, bool standard,
     const uint32_t *ids, size_t ids_length,
     const uint64_t *addresses, size_t addresses_length,
     uint8_t *code, size_t code_length,
@@ -120,7 +123,16 @@ size_t ndakoleem_sentence(
     uint8_t number, size_t slot,
     char *out, size_t out_length);
 
-/* What is lent to a translation and written by it; ndakoleem_translate_2 explains each. Lengths are in elements. */
+/* The flags of a translation; ndakoleem_translate_3 explains each. A caller names those that it sets, as in
+ * `(struct ndakoleem_flags){.use_mbuff = true}`: the others are off, and so is every one that is added later. In C++ they are set one by one,
+ * as in `ndakoleem_flags flags = {}; flags.use_mbuff = true;`, or by a list in braces. */
+struct ndakoleem_flags {
+    bool use_mbuff;
+    bool update_data_ptr;
+    bool standard;
+};
+
+/* What is lent to a translation and written by it; ndakoleem_translate_3 explains each. Lengths are in elements. */
 struct ndakoleem_buffers {
     uint8_t *code;
     size_t code_length;
@@ -164,19 +176,19 @@ static inline struct ndakoleem_buffers ndakoleem_lend(struct ndakoleem_memory *m
     return lent;
 }
 
-/* ndakoleem_translate_2, with the buffers in one struct. The helper lists and the tables may be null where their lengths are 0: a caller who
- * does not know of a table, and leaves it so, gets NDAKOLEEM_TABLE_TOO_SHORT. */
+/* ndakoleem_translate_3, with the flags in one struct and the buffers in another. The helper lists and the tables may be null where their
+ * lengths are 0: a caller who does not know of a table, and leaves it so, gets NDAKOLEEM_TABLE_TOO_SHORT. */
 static inline struct ndakoleem_translation ndakoleem_translate_into(
     const uint8_t *program, size_t program_length,
-    bool use_mbuff, bool update_data_ptr,
+    struct ndakoleem_flags flags,
     const uint32_t *ids, size_t ids_length,
     const uint64_t *addresses, size_t addresses_length,
     const struct ndakoleem_buffers *lent) {
     static const uint32_t no_id = 0;
     static const uint64_t no_address = 0;
     uint32_t no_entry = 0;
-    return ndakoleem_translate_2(
-        program, program_length, use_mbuff, update_data_ptr,
+    return ndakoleem_translate_3(
+        program, program_length, flags.use_mbuff, flags.update_data_ptr, flags.standard,
         ids == NULL ? &no_id : ids, ids_length,
         addresses == NULL ? &no_address : addresses, addresses_length,
         lent->code, lent->code_length,

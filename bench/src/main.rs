@@ -6,11 +6,13 @@
 //! programs are in `programs.rs`; `measure.rs` runs and marks them.
 //!
 //!     bench count CORPUS [FILTER ..]    mark each translation for icount.c
+//!     bench modes CORPUS [FILTER ..]    mark ours, without standard mode and in it
 //!     bench time CORPUS [FILTER ..]     time each translation
 //!
-//! Either prints a line for each row: its label, its table, its name, how many
+//! Each prints a line for each row: its label, its table, its name, how many
 //! programs and slots it has, and, of `time`, nanoseconds of the Rust and ours.
-//! DPDK's JIT is counted, and not timed.
+//! DPDK's JIT is counted, and not timed. `modes` leaves out a program that has
+//! another verdict in standard mode.
 
 #[cfg_attr(not(dpdk), path = "no_dpdk.rs")]
 mod dpdk;
@@ -45,20 +47,21 @@ mod lib {
     pub use crate::observe::byteorder;
 }
 
+type Measure = fn(&[programs::Row]) -> Result<(), String>;
+
 fn main() -> std::process::ExitCode {
     let words: Vec<String> = std::env::args().skip(1).collect();
     let words: Vec<&str> = words.iter().map(String::as_str).collect();
-    let (measured, files) = match words[..] {
-        ["count", ..] if words.len() > 1 => (measure::Measured::Counted, &words[1..]),
-        ["time", ..] if words.len() > 1 => (measure::Measured::Timed, &words[1..]),
+    let (measure, files): (Measure, _) = match words[..] {
+        ["count", ..] if words.len() > 1 => (measure::count, &words[1..]),
+        ["modes", ..] if words.len() > 1 => (measure::count_in_both_modes, &words[1..]),
+        ["time", ..] if words.len() > 1 => (measure::time, &words[1..]),
         _ => {
-            eprintln!("usage: bench count|time CORPUS [FILTER ..]");
+            eprintln!("usage: bench count|modes|time CORPUS [FILTER ..]");
             return 2.into();
         }
     };
-    let outcome =
-        programs::rows(files[0], &files[1..]).and_then(|rows| measure::all(measured, &rows));
-    match outcome {
+    match programs::rows(files[0], &files[1..]).and_then(|rows| measure(&rows)) {
         Ok(()) => 0.into(),
         Err(sentence) => {
             eprintln!("bench: {sentence}");

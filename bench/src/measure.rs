@@ -3,9 +3,10 @@
 //!
 //! One translation of the Rust is `JitMemory::new` of the no-std form, with
 //! what it does inside: `Vec`s on the heap, hashing, assertions. Ours is one
-//! call of `ndakoleem_translate_2`. Neither allocates the page or clears it, and
+//! call of `ndakoleem_translate_3`. Neither allocates the page or clears it, and
 //! the Rust's map of helpers is made beforehand. DPDK's JIT is counted beside
-//! them on the programs that it takes; it maps a page of its own.
+//! them on the programs that it takes; it maps a page of its own. The Rust has
+//! no standard mode: in it ours alone is counted.
 
 use std::hint::black_box;
 use std::time::{Duration, Instant};
@@ -16,22 +17,17 @@ use crate::stream::Case;
 use crate::{dpdk, ebpf, jit, HashMap};
 use ndakoleem::raw;
 
-#[derive(Clone, Copy)]
-pub enum Measured {
-    Counted,
-    Timed,
-}
-
 const PAGE: usize = ndakoleem::CODE_MAX;
 const ENTRIES: usize = 2 * ndakoleem::SLOTS_MAX;
 const TABLES: usize = 5;
-/// A row's labels, from its first, as `table.py` reads them. The last two are
-/// of the programs that DPDK's JIT takes.
+/// A row's labels, from its first, as `table.py` reads them. Those of DPDK are
+/// of the programs that its JIT takes.
 const RUST: u64 = 0;
 const OURS: u64 = 1;
 const DPDK: u64 = 2;
 const OURS_BESIDE_DPDK: u64 = 3;
-const LABELS: u64 = 4;
+const OURS_IN_STANDARD_MODE: u64 = 4;
+const LABELS: u64 = 5;
 /// A timed row goes on for at least this long.
 const AT_LEAST: Duration = Duration::from_millis(200);
 
@@ -44,6 +40,14 @@ struct Lent {
     rust_page: Box<Page>,
     our_page: Box<Page>,
     tables: [Vec<u32>; TABLES],
+}
+
+impl Lent {
+    fn new() -> Lent {
+        let page = || Box::new(Page([0; PAGE]));
+        let tables = [ENTRIES; TABLES].map(|length| vec![0; length]);
+        Lent { rust_page: page(), our_page: page(), tables }
+    }
 }
 
 #[inline(never)]
@@ -83,11 +87,12 @@ fn run_ours(
     let [locations, fields, targets, kinds, makers] = tables;
     let [l, f, t, k, m] = *entries;
     unsafe {
-        raw::ndakoleem_translate_2(
+        raw::ndakoleem_translate_3(
             case.program.as_ptr(),
             case.program.len(),
             case.use_mbuff,
             case.update_data_ptr,
+            case.standard,
             case.helper_ids.as_ptr(),
             case.helper_ids.len(),
             case.helper_addresses.as_ptr(),
@@ -174,6 +179,20 @@ fn counted_beside_dpdk(label: u64, case: &Case, length: usize, lent: &mut Lent) 
     });
 }
 
+/// Ours without standard mode and in it, where both have the same verdict;
+/// tells whether they have.
+fn counted_in_both_modes(label: u64, case: &Case, length: usize, lent: &mut Lent) -> bool {
+    let standard = Case { standard: true, ..case.clone() };
+    let (page, entries) = (&mut lent.our_page.0[..length], entries_of(case));
+    let mut translate = |case| run_ours(case, page, &mut lent.tables, &entries);
+    if (translate(case).number == 0) != (translate(&standard).number == 0) {
+        return false;
+    }
+    marked(label + OURS, || _ = black_box(translate(case)));
+    marked(label + OURS_IN_STANDARD_MODE, || _ = black_box(translate(&standard)));
+    true
+}
+
 /// Nanoseconds of one translation, the shortest of five rounds.
 fn timed(mut once: impl FnMut()) -> f64 {
     let mut repeats = 1u32;
@@ -227,36 +246,48 @@ fn labelled(rows: &[Row]) -> impl Iterator<Item = (u64, &Row)> {
     (1..).map(|at| LABELS * at).zip(rows)
 }
 
+/// What is printed of a row, its times aside.
+fn line(label: u64, row: &Row, cases: &[(&Case, usize)]) -> String {
+    let slots: usize = cases.iter().map(|(case, _)| case.slots()).sum();
+    format!("{label}\t{}\t{}\t{}\t{slots}", row.table, row.name, cases.len())
+}
+
 /// DPDK's JIT comes behind all rows, so that its use of the heap does not move
 /// the Rust's counts.
-pub fn all(measured: Measured, rows: &[Row]) -> Result<(), String> {
-    let page = || Box::new(Page([0; PAGE]));
-    let tables = [ENTRIES; TABLES].map(|length| vec![0; length]);
-    let mut lent = Lent { rust_page: page(), our_page: page(), tables };
+pub fn count(rows: &[Row]) -> Result<(), String> {
+    let mut lent = Lent::new();
     marked(0, || ());
     for (label, row) in labelled(rows) {
         let cases = ready(row, &mut lent)?;
-        let slots: usize = cases.iter().map(|(case, _)| case.slots()).sum();
-        print!("{label}\t{}\t{}\t{}\t{slots}", row.table, row.name, cases.len());
-        match measured {
-            Measured::Counted => {
-                cases.iter().for_each(|(case, length)| counted(label, case, *length, &mut lent));
-                println!();
-            }
-            // A row whose programs are all refused has nothing to time.
-            Measured::Timed if cases.is_empty() => println!("\t0\t0"),
-            Measured::Timed => {
-                let (rust, ours) = times(&cases, &mut lent);
-                println!("\t{rust:.0}\t{ours:.0}");
-            }
+        cases.iter().for_each(|(case, length)| counted(label, case, *length, &mut lent));
+        println!("{}", line(label, row, &cases));
+    }
+    for (label, row) in labelled(rows) {
+        for (case, length) in ready(row, &mut lent)? {
+            counted_beside_dpdk(label, case, length, &mut lent);
         }
     }
-    if let Measured::Counted = measured {
-        for (label, row) in labelled(rows) {
-            for (case, length) in ready(row, &mut lent)? {
-                counted_beside_dpdk(label, case, length, &mut lent);
-            }
-        }
+    Ok(())
+}
+
+pub fn count_in_both_modes(rows: &[Row]) -> Result<(), String> {
+    let mut lent = Lent::new();
+    marked(0, || ());
+    for (label, row) in labelled(rows) {
+        let mut cases = ready(row, &mut lent)?;
+        cases.retain(|(case, length)| counted_in_both_modes(label, case, *length, &mut lent));
+        println!("{}", line(label, row, &cases));
+    }
+    Ok(())
+}
+
+pub fn time(rows: &[Row]) -> Result<(), String> {
+    let mut lent = Lent::new();
+    for (label, row) in labelled(rows) {
+        let cases = ready(row, &mut lent)?;
+        // A row whose programs are all refused has nothing to time.
+        let (rust, ours) = if cases.is_empty() { (0., 0.) } else { times(&cases, &mut lent) };
+        println!("{}\t{rust:.0}\t{ours:.0}", line(label, row, &cases));
     }
     Ok(())
 }

@@ -1,6 +1,6 @@
 /* Keeps one IPv6 flow in three: the interface parts of the two addresses are mixed, and 32 bits of the mixture are scaled to 0, 1 or 2.
    Compiled for version 3 these bits are taken by a 32-bit move. The translated page keeps the upper half there (A1 in
-   docs/DIFFERENCES.md), so it keeps other packets than this says; compiled for version 1 it does not. */
+   docs/DIFFERENCES.md), so it keeps other packets than this says; compiled for version 1, or translated in standard mode, it does not. */
 #include "packet.h"
 
 LOCAL u64 scaled(u32 number, u64 classes);

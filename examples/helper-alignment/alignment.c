@@ -57,7 +57,8 @@ static uint64_t called(void *helper, int local_calls) {
     const uint32_t ids[] = {7};
     const uint64_t addresses[] = {(uint64_t)helper};
     size_t length = filter(program, local_calls);
-    struct ndakoleem_translation done = ndakoleem_translate_into(program, length, false, false, ids, 1, addresses, 1, &lent);
+    struct ndakoleem_flags flags = {.use_mbuff = false};
+    struct ndakoleem_translation done = ndakoleem_translate_into(program, length, flags, ids, 1, addresses, 1, &lent);
     void *page = mmap(NULL, NDAKOLEEM_CODE_MIN, PROT_READ | PROT_WRITE, MAP_PRIVATE | MAP_ANONYMOUS, -1, 0);
     if (done.number != NDAKOLEEM_ACCEPTED || page == MAP_FAILED) {
         fprintf(stderr, "alignment: a filter is refused (%u) or cannot be mapped\n", done.number);

@@ -42,7 +42,8 @@ static void say(const char *what, bool good) {
 }
 
 static struct ndakoleem_translation translated(const struct ndakoleem_buffers *lent) {
-    return ndakoleem_translate_into(filter, sizeof filter, false, false, NULL, 0, NULL, 0, lent);
+    static struct ndakoleem_flags none; /* off in C as in C++ */
+    return ndakoleem_translate_into(filter, sizeof filter, none, NULL, 0, NULL, 0, lent);
 }
 
 /* "slot 2: conditional, to slot 7", and the same of the prologue and the exit. */

@@ -1,10 +1,11 @@
 /* A loader in C: reads a filter, has it translated, maps its page, and runs it over the packets of a pcap.
  *
- *   loader [--raw] FILTER PCAP
+ *   loader [--raw] [--standard] FILTER PCAP
  *
  * FILTER is bytecode, eight bytes a slot. r1 of the filter is a struct packet, the addresses of the packet's first byte and of the byte behind
- * its last; with --raw it is the packet itself, with zeros behind it up to 64 bytes at least. What the filter gives is the verdict: 0 turns the
- * packet down, anything else keeps it. A filter is run as it is: one that reads outside the packet or never ends takes the loader with it. */
+ * its last; with --raw it is the packet itself, with zeros behind it up to 64 bytes at least. --standard has it translated in standard mode.
+ * What the filter gives is the verdict: 0 turns the packet down, anything else keeps it. A filter is run as it is: one that reads outside the
+ * packet or never ends takes the loader with it. */
 #include <stdbool.h>
 #include <stdio.h>
 #include <stdlib.h>
@@ -65,13 +66,13 @@ static const uint32_t helper_ids[] = {1, 2};
 enum { HELPERS = sizeof helper_ids / sizeof helper_ids[0] };
 
 /* The filter's code in a mapping of its own, executable and no longer writable; a refusal ends the program with its sentence. */
-static page_function load(const char *name, bool raw) {
+static page_function load(const char *name, struct ndakoleem_flags flags) {
     static struct ndakoleem_memory memory;
     struct ndakoleem_buffers lent = ndakoleem_lend(&memory);
     const uint64_t helpers[HELPERS] = {(uint64_t)is_subscribed, (uint64_t)mix};
     struct bytes program = read_file(name);
     struct ndakoleem_translation done =
-        ndakoleem_translate_into(program.at, program.length, !raw, false, helper_ids, HELPERS, helpers, HELPERS, &lent);
+        ndakoleem_translate_into(program.at, program.length, flags, helper_ids, HELPERS, helpers, HELPERS, &lent);
     if (done.number != NDAKOLEEM_ACCEPTED) {
         char sentence[NDAKOLEEM_SENTENCE_ENOUGH];
         size_t length = ndakoleem_sentence(program.at, program.length, done.number, done.slot, sentence, sizeof sentence);
@@ -125,11 +126,17 @@ static void run(page_function page, bool raw, const char *name) {
 }
 
 int main(int count, char **words) {
-    bool raw = count == 4 && strcmp(words[1], "--raw") == 0;
-    if (count != 3 + raw) {
-        fprintf(stderr, "usage: loader [--raw] FILTER PCAP\n");
+    bool raw = false, standard = false;
+    int at = 1;
+    for (; at < count; at += 1) {
+        if (strcmp(words[at], "--raw") == 0) raw = true;
+        else if (strcmp(words[at], "--standard") == 0) standard = true;
+        else break;
+    }
+    if (count - at != 2) {
+        fprintf(stderr, "usage: loader [--raw] [--standard] FILTER PCAP\n");
         return 2;
     }
-    run(load(words[1 + raw], raw), raw, words[2 + raw]);
+    run(load(words[at], (struct ndakoleem_flags){.use_mbuff = !raw, .standard = standard}), raw, words[at + 1]);
     return 0;
 }

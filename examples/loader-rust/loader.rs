@@ -1,14 +1,15 @@
 //! A loader in Rust: reads a filter, has it translated, maps its page, and
 //! runs it over the packets of a pcap.
 //!
-//!     loader [--raw] FILTER PCAP
+//!     loader [--raw] [--standard] FILTER PCAP
 //!
 //! FILTER is bytecode, eight bytes a slot. r1 of the filter is a `Packet`, the
 //! addresses of the packet's first byte and of the byte behind its last; with
 //! --raw it is the packet itself, with zeros behind it up to 64 bytes at
-//! least. What the filter gives is the verdict: 0 turns the packet down,
-//! anything else keeps it. A filter is run as it is: one that reads outside
-//! the packet or never ends takes the loader with it.
+//! least. --standard has it translated in standard mode. What the filter gives
+//! is the verdict: 0 turns the packet down, anything else keeps it. A filter
+//! is run as it is: one that reads outside the packet or never ends takes the
+//! loader with it.
 
 use std::error::Error;
 use std::process::ExitCode;
@@ -81,10 +82,9 @@ fn mapped(code: &[u8]) -> Outcome<PageFunction> {
     }
 }
 
-fn load(name: &str, raw: bool) -> Outcome<PageFunction> {
+fn load(name: &str, flags: Flags) -> Outcome<PageFunction> {
     let program = read(name)?;
     let mut page = Page::new();
-    let flags = Flags { use_mbuff: !raw, update_data_ptr: false };
     let addresses = [is_subscribed_entry as *const () as u64, mix_entry as *const () as u64];
     let helpers = Helpers { ids: &[1, 2], addresses: &addresses };
     let code = page.translate(&program, flags, helpers);
@@ -152,16 +152,21 @@ fn run(page: PageFunction, raw: bool, name: &str) -> Outcome<()> {
 
 fn main() -> ExitCode {
     let words: Vec<String> = std::env::args().skip(1).collect();
-    let words: Vec<&str> = words.iter().map(String::as_str).collect();
-    let (raw, filter, pcap) = match words[..] {
-        ["--raw", filter, pcap] => (true, filter, pcap),
-        [filter, pcap] => (false, filter, pcap),
-        _ => {
-            eprintln!("usage: loader [--raw] FILTER PCAP");
-            return 2.into();
+    let (mut raw, mut standard, mut names) = (false, false, &words[..]);
+    while let [word, behind @ ..] = names {
+        match word.as_str() {
+            "--raw" => raw = true,
+            "--standard" => standard = true,
+            _ => break,
         }
+        names = behind;
+    }
+    let [filter, pcap] = names else {
+        eprintln!("usage: loader [--raw] [--standard] FILTER PCAP");
+        return 2.into();
     };
-    match load(filter, raw).and_then(|page| run(page, raw, pcap)) {
+    let flags = Flags { use_mbuff: !raw, standard, ..Flags::default() };
+    match load(filter, flags).and_then(|page| run(page, raw, pcap)) {
         Ok(()) => 0.into(),
         Err(sentence) => {
             eprintln!("loader: {sentence}");

@@ -9,7 +9,7 @@ use std::io::{self, BufReader, BufWriter, Read, Write};
 
 use crate::judge::Judge;
 use crate::stream::{self, Answer, Case, Records, Translation};
-use crate::{corpus as list, generate};
+use crate::{corpus as list, generate, standard};
 
 type Status = Result<u8, String>;
 
@@ -83,9 +83,10 @@ pub fn show() -> Status {
     each_case(|out, at, case, answer| {
         writeln!(
             out,
-            "case {at}: use_mbuff {}, update_data_ptr {}, page {}, tables {:?}",
+            "case {at}: use_mbuff {}, update_data_ptr {}, standard {}, page {}, tables {:?}",
             case.use_mbuff,
             case.update_data_ptr,
+            case.standard,
             case.code_len,
             case.given_lens()
         )?;
@@ -147,6 +148,16 @@ pub fn count() -> Status {
     }
     table += &format!("all        {:>10}\n", counts.iter().sum::<u64>());
     say(&table)
+}
+
+pub fn standard() -> Status {
+    let (mut in_standard_mode, mut changed) = (0u64, 0u64);
+    let mut cases = stream::case_records(input());
+    while let Some(case) = cases.next_case()? {
+        in_standard_mode += case.standard as u64;
+        changed += (case.standard && standard::changes(&case.program)) as u64;
+    }
+    say(&format!("standard   {in_standard_mode:>10}\nchanged    {changed:>10}\n"))
 }
 
 fn open(name: &str) -> Result<Records<impl Read>, String> {

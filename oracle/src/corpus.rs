@@ -1,12 +1,12 @@
 //! The fixed list of cases: every opcode, register, edge and refusal in turn,
 //! then a random part from a fixed seed, then the limits once more, then cases
-//! with five tables.
+//! with five tables, then cases in standard mode.
 //!
 //! Each function gives one part; `cases` puts them one behind the other. The
 //! list is the same on every machine.
 
 use crate::ebpf;
-use crate::generate::Generator;
+use crate::generate::{Form, Generator};
 use crate::judge::Judge;
 use crate::sizes::{
     ANCHOR, CODE_MAX, CODE_MIN, EPILOGUE, HELPERS_MAX, PROGRAM_MAX, PROLOGUE, SLOT_LONGEST,
@@ -16,7 +16,7 @@ use crate::slots::{
     plain_case, slot, wide, Opcodes, BAD_SWAPS, CONSTANTS, IDS, IMMS, LAST_REGISTER, OFFS,
 };
 use crate::stream::{Answer, Case, HELPER_LIMIT};
-use crate::{five, limits};
+use crate::{five, limits, standard_cases};
 
 const RANDOM_SEED: u64 = 1;
 const RANDOM_COUNT: u64 = 2_000;
@@ -45,11 +45,13 @@ pub fn cases() -> Result<Vec<Case>, String> {
     list.extend(refusal_order());
     list.extend(page_ends(&mut judge, &opcodes)?);
     let mut generator = Generator::new()?;
+    let form = Form { five_tables: false, standard: false };
     for at in 0..RANDOM_COUNT {
-        list.push(generator.of_three_tables(RANDOM_SEED, at)?);
+        list.push(generator.formed(form, RANDOM_SEED, at)?);
     }
     list.extend(limits::cases());
     list.extend(five::cases(&mut judge, &opcodes, &mut generator)?);
+    list.extend(standard_cases::cases(&mut judge, &opcodes, &mut generator)?);
     Ok(list)
 }
 
@@ -411,7 +413,7 @@ fn page_ends(judge: &mut Judge, opcodes: &Opcodes) -> Result<Vec<Case>, String> 
     ];
     let mut list = Vec::new();
     for last in last_slots(opcodes) {
-        let len = code_len_alone(judge, &last)?;
+        let len = code_len_alone(judge, &last, false)?;
         let excesses = match at_every_byte.contains(&last[0][0]) {
             true => (0..=EPILOGUE + len).collect(),
             false => vec![0, 1, EPILOGUE, EPILOGUE + 1, EPILOGUE + len],
@@ -424,8 +426,12 @@ fn page_ends(judge: &mut Judge, opcodes: &Opcodes) -> Result<Vec<Case>, String> 
 }
 
 /// The length of the code of these slots.
-pub fn code_len_alone(judge: &mut Judge, slots: &[[u8; 8]]) -> Result<usize, String> {
-    match judge.answer(&with_helper(case_of(slots), 0))? {
+pub fn code_len_alone(
+    judge: &mut Judge,
+    slots: &[[u8; 8]],
+    standard: bool,
+) -> Result<usize, String> {
+    match judge.answer(&Case { standard, ..with_helper(case_of(slots), 0) })? {
         Answer::Accepted(alone) => Ok(alone.code.len() - PROLOGUE - EPILOGUE),
         Answer::Refused { .. } => Err(format!("the slots {slots:02x?} are not accepted alone")),
     }

@@ -1,10 +1,10 @@
-//! The last part of the fixed list: cases with five tables, which ask for the
-//! kind and the maker of every listed jump. It stands behind all others, so
-//! that the cases ahead of it keep their numbers.
+//! A part of the fixed list: cases with five tables, which ask for the kind and
+//! the maker of every listed jump. It stands behind the limits, so that the
+//! cases ahead of it keep their numbers.
 
 use crate::corpus::{bad_slots, case_of, code_len_alone, page_end, with_helper, EXIT, FLAG_PAIRS};
 use crate::ebpf;
-use crate::generate::Generator;
+use crate::generate::{Form, Generator};
 use crate::judge::Judge;
 use crate::limits::{codeless, local_call, roomy};
 use crate::sizes::{
@@ -48,8 +48,9 @@ pub fn cases(
         full_pages(judge)?,
     ];
     list.extend(jumps.concat().into_iter().map(five_tables));
+    let form = Form { five_tables: true, standard: false };
     for at in 0..RANDOM_COUNT {
-        list.push(generator.of_five_tables(RANDOM_SEED, at)?);
+        list.push(generator.formed(form, RANDOM_SEED, at)?);
     }
     Ok(list)
 }
@@ -291,7 +292,7 @@ fn full_pages(judge: &mut Judge) -> Result<Vec<Case>, String> {
     // The call of the exit is another in every slot.
     let [any_slot @ .., _] = jumping(0);
     for last in any_slot {
-        let len = code_len_alone(judge, &[last])?;
+        let len = code_len_alone(judge, &[last], false)?;
         for excess in [0, 1, EPILOGUE + 1] {
             list.push(page_end(&[last], len, excess));
         }

@@ -2,7 +2,8 @@
 //! has its share, alone and with others behind it, so that the order of the
 //! refusals is asked about too.
 //!
-//! Case number `at` of a seed depends on these two numbers alone.
+//! Case number `at` of a seed depends on these two numbers and on its form
+//! alone.
 
 use crate::ebpf;
 use crate::judge::Judge;
@@ -26,6 +27,20 @@ pub struct Generator {
     opcodes: Opcodes,
 }
 
+/// What is settled of a case before anything is drawn.
+#[derive(Clone, Copy)]
+pub struct Form {
+    pub five_tables: bool,
+    pub standard: bool,
+}
+
+impl Form {
+    /// Every second case has five tables, every third is in standard mode.
+    pub fn of(at: u64) -> Form {
+        Form { five_tables: at % 2 == 1, standard: at % 3 == 2 }
+    }
+}
+
 impl Generator {
     pub fn new() -> Result<Generator, String> {
         let mut judge = Judge::new();
@@ -33,23 +48,31 @@ impl Generator {
         Ok(Generator { judge, opcodes })
     }
 
-    /// Every second case has five tables.
     pub fn case(&mut self, seed: u64, at: u64) -> Result<Case, String> {
-        if at.is_multiple_of(2) {
-            self.of_three_tables(seed, at)
-        } else {
-            self.of_five_tables(seed, at)
-        }
+        self.formed(Form::of(at), seed, at)
     }
 
-    pub fn of_five_tables(&mut self, seed: u64, at: u64) -> Result<Case, String> {
-        let case = self.of_three_tables(seed, at)?;
+    pub fn formed(&mut self, form: Form, seed: u64, at: u64) -> Result<Case, String> {
+        let Generator { judge, opcodes } = self;
+        let random = &mut Random::new(seed, at);
+        let case = Maker { judge, opcodes, standard: form.standard }.case(random)?;
+        if !form.five_tables {
+            return Ok(case);
+        }
         let random = &mut Random::new(seed ^ FURTHER, at);
         Ok(Case { further_lens: Some(further_lens(random, case.slots() as u32)), ..case })
     }
+}
 
-    pub fn of_three_tables(&mut self, seed: u64, at: u64) -> Result<Case, String> {
-        let random = &mut Random::new(seed, at);
+/// Makes a case of three tables.
+struct Maker<'a> {
+    judge: &'a mut Judge,
+    opcodes: &'a Opcodes,
+    standard: bool,
+}
+
+impl Maker<'_> {
+    fn case(&mut self, random: &mut Random) -> Result<Case, String> {
         Ok(match random.below(1_000) {
             0..=509 => self.small(random, 0),
             510..=759 => self.small(random, 1),
@@ -74,12 +97,11 @@ impl Generator {
         };
         let (ids, addresses) = few_helpers(random);
         let program = self.program(random, &ids, n, faults);
-        framed(random, program, ids, addresses)
+        self.framed(random, program, ids, addresses)
     }
 
     fn program(&self, random: &mut Random, ids: &[u32], n: usize, faults: usize) -> Vec<u8> {
-        let setting =
-            Setting { opcodes: &self.opcodes, helper_ids: ids, reach: n, fat: random.one_in(8) };
+        let setting = self.setting(ids, n, random.one_in(8));
         let mut program = program::good(random, &setting, n);
         for _ in 0..faults {
             let fault = random.pick(&FAULTS);
@@ -91,8 +113,8 @@ impl Generator {
     fn wild(&self, random: &mut Random) -> Case {
         let (ids, addresses) = few_helpers(random);
         let n = 1 + random.below(6);
-        let program = program::wild(random, &self.opcodes, n);
-        framed(random, program, ids, addresses)
+        let program = program::wild(random, self.opcodes, n);
+        self.framed(random, program, ids, addresses)
     }
 
     /// One of refusals 1 to 5 has its cause, sometimes several have.
@@ -165,9 +187,8 @@ impl Generator {
         fat: bool,
     ) -> Result<(Case, Option<Translation>), String> {
         let (ids, addresses) = few_helpers(random);
-        let setting = Setting { opcodes: &self.opcodes, helper_ids: &ids, reach, fat };
-        let program = program::good(random, &setting, n);
-        let mut case = framed(random, program, ids, addresses);
+        let program = program::good(random, &self.setting(&ids, reach, fat), n);
+        let mut case = self.framed(random, program, ids, addresses);
         case.code_len = CODE_MAX;
         match self.judge.answer(&case)? {
             Answer::Accepted(page) => Ok((case, Some(page))),
@@ -178,12 +199,7 @@ impl Generator {
     /// What comes first where the page is too short and a slot is bad as well?
     fn sometimes_spoiled(&self, random: &mut Random, mut case: Case) -> Case {
         if random.one_in(5) {
-            let setting = Setting {
-                opcodes: &self.opcodes,
-                helper_ids: &case.helper_ids,
-                reach: case.slots(),
-                fat: false,
-            };
+            let setting = self.setting(&case.helper_ids, case.slots(), false);
             let fault =
                 random.pick(&[Fault::Target, Fault::Target, Fault::Unknown, Fault::CutShort]);
             program::spoil(random, &setting, &mut case.program, fault);
@@ -198,7 +214,7 @@ impl Generator {
         let (ids, addresses) = few_helpers(random);
         let faults = random.below(2);
         let program = self.program(random, &ids, n, faults);
-        let mut case = framed(random, program, ids, addresses);
+        let mut case = self.framed(random, program, ids, addresses);
         let most = SLOTS_MAX as u32;
         case.code_len = random.pick(&[8 * most, 12 * most, CODE_MAX - 1, CODE_MAX]);
         case
@@ -216,6 +232,40 @@ impl Generator {
         case.program = self.program(random, &case.helper_ids, 6, faults);
         case.table_lens = [8; 3];
         case
+    }
+
+    fn setting<'b>(&'b self, helper_ids: &'b [u32], reach: usize, fat: bool) -> Setting<'b> {
+        Setting { opcodes: self.opcodes, helper_ids, reach, fat, standard: self.standard }
+    }
+
+    /// A program in a frame that has room for it.
+    fn framed(
+        &self,
+        random: &mut Random,
+        program: Vec<u8>,
+        ids: Vec<u32>,
+        addresses: Vec<u64>,
+    ) -> Case {
+        let entries = program.len() as u32 / 8 + 1;
+        let flags = random.below(4);
+        let code_len = match random.below(64) {
+            0 => CODE_MAX,
+            1 => CODE_MAX - 1,
+            2..=7 => CODE_MIN + 1,
+            8..=15 => random.between(CODE_MIN as i64, 2 * CODE_MIN as i64) as u32,
+            _ => CODE_MIN,
+        };
+        Case {
+            use_mbuff: flags & 1 != 0,
+            update_data_ptr: flags & 2 != 0,
+            standard: self.standard,
+            code_len,
+            table_lens: [0; 3].map(|_| entries + random.pick(&[0, 0, 0, 1, 2, 100])),
+            further_lens: None,
+            helper_ids: ids,
+            helper_addresses: addresses,
+            program,
+        }
     }
 }
 
@@ -237,29 +287,6 @@ fn few_helpers(random: &mut Random) -> (Vec<u32>, Vec<u64>) {
     }
     let addresses = ids.iter().map(|_| address(random)).collect();
     (ids, addresses)
-}
-
-/// A program in a frame that has room for it.
-fn framed(random: &mut Random, program: Vec<u8>, ids: Vec<u32>, addresses: Vec<u64>) -> Case {
-    let entries = program.len() as u32 / 8 + 1;
-    let flags = random.below(4);
-    let code_len = match random.below(64) {
-        0 => CODE_MAX,
-        1 => CODE_MAX - 1,
-        2..=7 => CODE_MIN + 1,
-        8..=15 => random.between(CODE_MIN as i64, 2 * CODE_MIN as i64) as u32,
-        _ => CODE_MIN,
-    };
-    Case {
-        use_mbuff: flags & 1 != 0,
-        update_data_ptr: flags & 2 != 0,
-        code_len,
-        table_lens: [0; 3].map(|_| entries + random.pick(&[0, 0, 0, 1, 2, 100])),
-        further_lens: None,
-        helper_ids: ids,
-        helper_addresses: addresses,
-        program,
-    }
 }
 
 /// Refusal 3, from its edge on; now and then one byte below it.

@@ -4,14 +4,14 @@
 //! What is translated, and to which bytes, the Rust alone decides. The oracle
 //! adds a few lines: refusals 2 to 5, which the Rust does not have, the names of
 //! the Rust's own endings, which are error texts and panic texts there and
-//! numbers here, and the kinds and makers of `jumps.rs`. An ending that has no
-//! number is a failure of the oracle, said in a sentence; it is never guessed
-//! at.
+//! numbers here, the kinds and makers of `jumps.rs`, and in standard mode what
+//! `standard.rs` says. An ending that has no number is a failure of the oracle,
+//! said in a sentence; it is never guessed at.
 
 use crate::observe::{self, debug_number, Panic, Seen, NO_LOCATION};
 use crate::sizes::{CODE_MAX, CODE_MIN, EPILOGUE, EXIT_ANCHOR, HELPERS_MAX, PROGRAM_MAX};
 use crate::stream::{Answer, Case, Translation};
-use crate::{ebpf, jit, jumps, HashMap};
+use crate::{ebpf, jit, jumps, standard, HashMap};
 
 /// Bytes behind the code buffer that are watched as well.
 const GUARD: usize = 64;
@@ -61,21 +61,32 @@ impl Judge {
     /// The answer to a case, or a sentence about what the oracle cannot
     /// account for.
     pub fn answer(&mut self, case: &Case) -> Result<Answer, String> {
+        if case.standard {
+            return standard::answer(self, case);
+        }
+        let (answer, _) = self.rbpf(case)?;
+        Ok(answer)
+    }
+
+    /// What rbpf makes of a case, standard mode or not, and the notes of its
+    /// run.
+    pub fn rbpf(&mut self, case: &Case) -> Result<(Answer, Seen), String> {
         // Refusal 1 comes ahead of 2 to 5, and is the Rust's own.
         if case.code_len >= CODE_MIN {
             if let Some(number) = added_refusal(case) {
-                return Ok(Answer::Refused { number, slot: 0 });
+                return Ok((Answer::Refused { number, slot: 0 }, Seen::default()));
             }
         }
         let lent = case.code_len as usize;
         self.page.0[..lent + GUARD].copy_from_slice(&self.pattern[..lent + GUARD]);
         let (ending, seen) = observe::watch(|| translate(case, &mut self.page.0[..lent]));
         self.untouched(lent, lent + GUARD, "behind the code buffer")?;
-        match ending {
+        let answer = match ending {
             Ok(Ok(len)) => self.accepted(case, &seen, len),
             Ok(Err(text)) => refused(case, &seen, AnError, &text),
             Err(panic) => refused(case, &seen, place_of(&panic), &panic.text),
-        }
+        };
+        Ok((answer?, seen))
     }
 
     fn untouched(&self, from: usize, to: usize, where_: &str) -> Result<(), String> {
@@ -95,18 +106,22 @@ impl Judge {
         if !whole {
             return Err("the notes of an accepted run do not agree with its code".to_string());
         }
-        let code = &self.page.0[..len];
-        // Found for every page, shown where the case asks: the check that is in
-        // them is not to depend on the question.
-        let further = jumps::further(code, seen)?;
-        Ok(Answer::Accepted(Translation {
-            code: code.to_vec(),
-            locations: seen.locations.iter().map(|location| *location as u32).collect(),
-            fields: seen.jumps.iter().map(|jump| jump.field as u32).collect(),
-            targets: seen.jumps.iter().map(|jump| jump.target as u32).collect(),
-            further: case.further_lens.map(|_| further),
-        }))
+        translation(case, &self.page.0[..len], seen)
     }
+}
+
+/// A finished page, in the form of an answer.
+pub fn translation(case: &Case, code: &[u8], seen: &Seen) -> Result<Answer, String> {
+    // Found for every page, shown where the case asks: the check that is in
+    // them is not to depend on the question.
+    let further = jumps::further(code, seen)?;
+    Ok(Answer::Accepted(Translation {
+        code: code.to_vec(),
+        locations: seen.locations.iter().map(|location| *location as u32).collect(),
+        fields: seen.jumps.iter().map(|jump| jump.field as u32).collect(),
+        targets: seen.jumps.iter().map(|jump| jump.target as u32).collect(),
+        further: case.further_lens.map(|_| further),
+    }))
 }
 
 /// Refusals 2 to 5, in the order of docs/REFUSALS.md. A table whose length the

@@ -15,6 +15,8 @@ mod program;
 mod random;
 mod sizes;
 mod slots;
+mod standard;
+mod standard_cases;
 mod stream;
 #[cfg(test)]
 mod tests;
@@ -44,6 +46,8 @@ usage: oracle COMMAND
   cases SEED COUNT    COUNT random cases on standard output
   corpus              the fixed list of cases on standard output
   count               answers on standard input, counted by refusal number
+  standard            cases on standard input, counted: those in standard mode,
+                      and of these those with a slot that it changes
   diff A B            two files of answers, compared case by case;
                       exit status 1 where they differ
 ";
@@ -57,6 +61,7 @@ fn main() -> std::process::ExitCode {
         ["cases", seed, count] => commands::cases(seed, count),
         ["corpus"] => commands::corpus(),
         ["count"] => commands::count(),
+        ["standard"] => commands::standard(),
         ["diff", one, other] => commands::diff(one, other),
         ["help" | "--help" | "-h"] => commands::say(USAGE),
         _ => {

@@ -28,6 +28,9 @@ const FAVOURED: [u8; 18] = [
     ebpf::ST_B_REG,
 ];
 
+/// Those that standard mode changes, taken more often there.
+const CHANGED: [u8; 4] = [ebpf::MOD32_REG, ebpf::MOD32_IMM, ebpf::MOV32_REG, ebpf::LE];
+
 /// What good slots may refer to.
 pub struct Setting<'a> {
     pub opcodes: &'a Opcodes,
@@ -36,6 +39,7 @@ pub struct Setting<'a> {
     pub reach: usize,
     /// Mostly slots with long code.
     pub fat: bool,
+    pub standard: bool,
 }
 
 /// A program of n slots without a fault.
@@ -55,7 +59,9 @@ pub fn good(random: &mut Random, setting: &Setting, n: usize) -> Vec<u8> {
 }
 
 fn good_opcode(random: &mut Random, setting: &Setting) -> u8 {
-    if random.one_in(if setting.fat { 2 } else { 4 }) {
+    if setting.standard && random.one_in(3) {
+        random.pick(&CHANGED)
+    } else if random.one_in(if setting.fat { 2 } else { 4 }) {
         random.pick(&FAVOURED)
     } else if setting.fat {
         random.pick(&[ebpf::DIV64_REG, ebpf::DIV32_REG, ebpf::MOD64_REG, ebpf::MUL64_IMM])
@@ -71,8 +77,12 @@ fn good_slot(random: &mut Random, setting: &Setting, at: usize, opc: u8) -> [u8;
     if jumps_by_off(opc) {
         return slot(opc, dst, src, target as i16, immediate(random));
     }
+    let swaps = opc == ebpf::BE || setting.standard && opc == ebpf::LE;
     match opc {
-        ebpf::BE => slot(opc, dst, src, offset(random), random.pick(&[16, 32, 64])),
+        _ if swaps => slot(opc, dst, src, offset(random), random.pick(&[16, 32, 64])),
+        ebpf::MOD32_IMM if setting.standard && random.one_in(2) => {
+            slot(opc, dst, src, offset(random), 0)
+        }
         ebpf::CALL if random.one_in(2) && !setting.helper_ids.is_empty() => {
             slot(opc, dst, 0, offset(random), random.pick(setting.helper_ids) as i32)
         }
@@ -199,7 +209,10 @@ fn spoiled_slot(
         }
         Fault::Unknown => slot(random.pick(&setting.opcodes.unknown), dst, src, 0, imm),
         Fault::Unimplemented => slot(random.pick(&setting.opcodes.unimplemented), dst, src, 0, imm),
-        Fault::Swap => slot(ebpf::BE, dst, src, 0, random.pick(&slots::BAD_SWAPS)),
+        Fault::Swap => {
+            let opc = if setting.standard { random.pick(&[ebpf::BE, ebpf::LE]) } else { ebpf::BE };
+            slot(opc, dst, src, 0, random.pick(&slots::BAD_SWAPS))
+        }
         Fault::Helper => slot(ebpf::CALL, dst, 0, 0, unlisted(random, setting) as i32),
         Fault::CallType => slot(ebpf::CALL, dst, 2 + random.below(9) as u8, 0, imm),
         _ => bad_jump(random, setting, (dst, src), (at, n)),

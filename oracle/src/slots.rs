@@ -78,12 +78,13 @@ pub fn wide(dst: u8, value: u64) -> [[u8; 8]; 2] {
 }
 
 /// A case that has all it needs: the smallest page, tables of n+1 entries, no
-/// helpers, both flags false.
+/// helpers, the flags false.
 pub fn plain_case(program: &[u8]) -> Case {
     let entries = program.len() as u32 / 8 + 1;
     Case {
         use_mbuff: false,
         update_data_ptr: false,
+        standard: false,
         code_len: CODE_MIN,
         table_lens: [entries; 3],
         further_lens: None,
@@ -91,6 +92,10 @@ pub fn plain_case(program: &[u8]) -> Case {
         helper_addresses: Vec::new(),
         program: program.to_vec(),
     }
+}
+
+pub fn in_standard_mode(case: Case) -> Case {
+    Case { standard: true, ..case }
 }
 
 /// The same case with five tables, the two further ones of n+1 entries.

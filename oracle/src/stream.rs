@@ -20,6 +20,7 @@ const ANSWER_LIMIT: usize = 1 << 20;
 /// The flags of a case.
 const USE_MBUFF: u8 = 1 << 0;
 const UPDATE_DATA_PTR: u8 = 1 << 1;
+const STANDARD: u8 = 1 << 2;
 /// The lengths of the tables of kinds and makers are given, and the answer is
 /// to show what these hold.
 const FIVE_TABLES: u8 = 1 << 7;
@@ -29,6 +30,8 @@ const FIVE_TABLES: u8 = 1 << 7;
 pub struct Case {
     pub use_mbuff: bool,
     pub update_data_ptr: bool,
+    /// Standard mode: the code follows RFC 9669 where rbpf's does not.
+    pub standard: bool,
     pub code_len: u32,
     /// Entries of the locations, jump field and jump target tables.
     pub table_lens: [u32; 3],
@@ -105,6 +108,7 @@ fn flags_of(case: &Case) -> u8 {
     let flag = |bit, set| if set { bit } else { 0 };
     flag(USE_MBUFF, case.use_mbuff)
         | flag(UPDATE_DATA_PTR, case.update_data_ptr)
+        | flag(STANDARD, case.standard)
         | flag(FIVE_TABLES, case.further_lens.is_some())
 }
 
@@ -276,8 +280,8 @@ impl<'a> Parts<'a> {
 fn parse_case(rest: &[u8]) -> Result<Case, &'static str> {
     let mut parts = Parts(rest);
     let flags = parts.bytes(1)?[0];
-    if flags & !(USE_MBUFF | UPDATE_DATA_PTR | FIVE_TABLES) != 0 {
-        return Err("it has a flag other than bits 0, 1 and 7");
+    if flags & !(USE_MBUFF | UPDATE_DATA_PTR | STANDARD | FIVE_TABLES) != 0 {
+        return Err("it has a flag other than bits 0, 1, 2 and 7");
     }
     let code_len = parts.u32()?;
     let table_lens = [parts.u32()?, parts.u32()?, parts.u32()?];
@@ -294,6 +298,7 @@ fn parse_case(rest: &[u8]) -> Result<Case, &'static str> {
     parts.done(Case {
         use_mbuff: flags & USE_MBUFF != 0,
         update_data_ptr: flags & UPDATE_DATA_PTR != 0,
+        standard: flags & STANDARD != 0,
         code_len,
         table_lens,
         further_lens,

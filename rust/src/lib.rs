@@ -62,7 +62,9 @@ pub const HELPERS_MAX: usize = 256;
 /// In the table of targets: a jump to the exit.
 pub const EXIT_TARGET: u32 = 1_000_001;
 
-/// Which registers the filter finds filled.
+/// What the filter finds in its registers, and whose rules its code follows.
+/// Callers name the flags that they set, as in `Flags { use_mbuff: true,
+/// ..Flags::default() }`: one that is added later is then off.
 #[derive(Clone, Copy, Debug, Default, PartialEq, Eq)]
 pub struct Flags {
     /// r1 is a metadata buffer (mbuff), and not the packet.
@@ -70,6 +72,11 @@ pub struct Flags {
     /// With `use_mbuff`: the packet's start and end are stored in the mbuff,
     /// at the two offsets that the page's caller gives.
     pub update_data_ptr: bool,
+    /// Standard mode: a 32-bit MOV by register and a 32-bit MOD by zero clear
+    /// the upper half of dst, and LE 16 and LE 32 keep its low 16 and 32 bits
+    /// alone, as RFC 9669 has it. Off, as in rbpf, this MOV copies 64 bits,
+    /// this MOD and LE do nothing.
+    pub standard: bool,
 }
 
 /// The helpers that the filter may call: a number and an address for each,
@@ -147,11 +154,12 @@ pub fn translate(
     // Each pointer is a slice's, good for its length; what is written is lent
     // by `&mut`, so nothing overlaps it.
     let answer = unsafe {
-        raw::ndakoleem_translate_2(
+        raw::ndakoleem_translate_3(
             program.as_ptr(),
             program.len(),
             flags.use_mbuff,
             flags.update_data_ptr,
+            flags.standard,
             helpers.ids.as_ptr(),
             helpers.ids.len(),
             helpers.addresses.as_ptr(),

@@ -30,7 +30,7 @@ pub enum Reason {
     UnknownOpcode = 8,
     /// A 32- or 64-bit atomic add, or a tail call: known, but not translated.
     Unimplemented = 9,
-    /// A byte swap to big-endian of a width other than 16, 32 or 64 bits.
+    /// BE, or in standard mode LE, of a width other than 16, 32 or 64 bits.
     BadSwap = 10,
     /// A call of a helper whose id is not in the list.
     UnknownHelper = 11,

@@ -123,7 +123,7 @@ fn a_page_owns_what_it_was_given() -> Result<(), Refusal> {
 #[test]
 fn every_program_finds_room_in_a_page() -> Result<(), Refusal> {
     let longest = [0x3f, 0x54, 0, 0, 0, 0, 0, 0].repeat(SLOTS_MAX);
-    let flags = Flags { use_mbuff: true, update_data_ptr: true };
+    let flags = Flags { use_mbuff: true, update_data_ptr: true, ..Flags::default() };
     let mut page = Page::new();
     assert_eq!(page.translate(&longest, flags, Helpers::default())?.len(), CODE_LONGEST);
     let lengths = [page.locations(), page.fields(), page.targets(), page.kinds(), page.makers()]
@@ -133,15 +133,39 @@ fn every_program_finds_room_in_a_page() -> Result<(), Refusal> {
 }
 
 #[test]
-fn each_flag_reaches_the_library() {
+fn each_flag_of_the_prologue_reaches_the_library() {
     let length = |use_mbuff, update_data_ptr| {
-        let flags = Flags { use_mbuff, update_data_ptr };
+        let flags = Flags { use_mbuff, update_data_ptr, ..Flags::default() };
         Lent::new(CODE_MIN, 2).translate(&EXIT, flags, Helpers::default()).expect("accepted").length
     };
     // The prologue is 34, 34, 31 or 49 bytes; EXIT and the epilogue are 17.
     let lengths =
         [length(false, false), length(false, true), length(true, false), length(true, true)];
     assert_eq!(lengths, [51, 51, 48, 66]);
+}
+
+/// The code of a slot that stands between two others, without standard mode and
+/// in it.
+fn in_both_modes(slot: [u8; 8]) -> [Result<Vec<u8>, Refusal>; 2] {
+    [false, true].map(|standard| {
+        let mut page = Page::new();
+        let flags = Flags { standard, ..Flags::default() };
+        page.translate(&[EXIT, slot, EXIT].concat(), flags, Helpers::default())?;
+        let [begin, end] = [1, 2].map(|slot| page.locations()[slot] as usize);
+        Ok(page.code()[begin..end].to_vec())
+    })
+}
+
+#[test]
+fn standard_mode_reaches_the_library() {
+    let mov32_reg = in_both_modes([0xbc, 0, 0, 0, 0, 0, 0, 0]);
+    assert_eq!(mov32_reg, [Ok(vec![0x48, 0x89, 0xc0]), Ok(vec![0x89, 0xc0])]);
+    let mod32_by_0 = in_both_modes([0x94, 0, 0, 0, 0, 0, 0, 0]);
+    assert_eq!(mod32_by_0, [Ok(vec![]), Ok(vec![0x89, 0xc0])]);
+    let [off, on] = in_both_modes([0xd4, 0, 0, 0, 8, 0, 0, 0]);
+    assert_eq!(off, Ok(vec![]));
+    let refusal = on.expect_err("LE 8");
+    assert_eq!((refusal.reason, refusal.slot), (Reason::BadSwap, 1));
 }
 
 #[test]

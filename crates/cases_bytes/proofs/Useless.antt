@@ -134,10 +134,27 @@ pub bit-7-taken-for-bit-1 : caseOf named 512 512 .«update_data_ptr» ≡ true �
 unfolding caseOf partsOf noCase wrongWith lengthsEnd idsIn addressesAt addressesIn programAt programIn
 bit-7-taken-for-bit-1 e = let z : _≡_ {A = ℕ} 0 1 = cc in omega arith
 
--- .. and of one without it: a further table of no entries
+-- .. of one without it: a further table of no entries
 pub unsaid-empty : caseOf small 512 512 .kinds ≡ 0 → ⊥
 unfolding caseOf partsOf noCase wrongWith lengthsEnd idsIn addressesAt addressesIn programAt programIn
 unsaid-empty e = omega (arith, e)
+
+-- .. of one that has bit 2 alone: it is taken for bit 1; it is not seen
+abbrev pub standard : List ℕ
+standard = 4 ∷ drop 1 small
+
+pub bit-2-taken-for-bit-1 : caseOf standard 512 512 .«update_data_ptr» ≡ true → ⊥
+unfolding caseOf partsOf noCase wrongWith lengthsEnd idsIn addressesAt addressesIn programAt programIn
+bit-2-taken-for-bit-1 e = let z : _≡_ {A = ℕ} 0 1 = cc in omega arith
+
+pub bit-2-unseen : caseOf standard 512 512 .standard ≡ false → ⊥
+unfolding caseOf partsOf noCase wrongWith lengthsEnd idsIn addressesAt addressesIn programAt programIn
+bit-2-unseen e = let z : _≡_ {A = ℕ} 0 1 = cc in omega arith
+
+-- .. and of one that has bit 3, which no case has: taken for a case
+pub bit-3-let-pass : problemNumber (caseOf (8 ∷ drop 1 small) 512 512 .problem) ≡ 0 → ⊥
+unfolding caseOf partsOf noCase wrongWith lengthsEnd idsIn addressesAt addressesIn programAt programIn
+bit-3-let-pass e = omega (arith, e)
 
 -- number_at and count_at: the highest byte first; one byte alone. address_at: its halves exchanged; the low half alone
 pub number-backwards : le4 (1 ∷ 2 ∷ 3 ∷ 4 ∷ []) 0 ≡ 16909060 → ⊥

@@ -15,6 +15,7 @@ pub struct Case {
     pub problem: Problem,
     pub use_mbuff: bool,
     pub update_data_ptr: bool,
+    pub standard: bool,
     // The answer has the kinds and makers of the jumps too.
     pub named: bool,
     pub code: usize,
@@ -35,6 +36,7 @@ fn no_case(problem: Problem) -> Case
         problem,
         use_mbuff: false,
         update_data_ptr: false,
+        standard: false,
         named: false,
         code: 0,
         locations: 0,
@@ -63,7 +65,7 @@ fn wrong_with(body: &[u8], most_ids: usize, most_addresses: usize) -> Problem
     if body.len() == 0 {
         return Problem::Unfilled;
     }
-    if 3 < body[0] % 128 {
+    if 7 < body[0] % 128 {
         return Problem::OtherFlags;
     }
     let end = lengths_end(body);
@@ -141,6 +143,7 @@ fn parts_of(body: &[u8]) -> Case
         problem: Problem::Nothing,
         use_mbuff: body[0] % 2 == 1,
         update_data_ptr: body[0] / 2 % 2 == 1,
+        standard: body[0] / 4 % 2 == 1,
         named: body[0] / 128 == 1,
         code: numbers::count_at(body, 1),
         locations: numbers::count_at(body, 5),

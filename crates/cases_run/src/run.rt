@@ -13,6 +13,7 @@ use cases_bytes::stream;
 use cases_bytes::stream::Window;
 use cases_problems::Problem;
 use jit::Flags;
+use jit::Mode;
 use jit::Refusal;
 use jit_translate::translate::Answer;
 use jit_translate::translate::translate;
@@ -202,11 +203,17 @@ fn accepted(
     reply_of(size)
 }
 
+// How many locations an accepted program has: one for each slot, and one behind the last.
+fn ends_of(program: &[u8]) -> usize {
+    program.len() / 8 + 1
+}
+
 // What is lent here is lent whole. It is marked before, and marked again afterwards where there is no problem. `named` asks for the kinds
 // and makers.
 fn run_lent(
     program: &[u8],
     flags: Flags,
+    mode: Mode,
     named: bool,
     ids: &[u32],
     addresses: &[u64],
@@ -223,6 +230,7 @@ fn run_lent(
     match translate(
         program,
         flags,
+        mode,
         ids,
         addresses,
         code,
@@ -246,7 +254,7 @@ fn run_lent(
             code,
             length,
             locations,
-            program.len() / 8 + 1,
+            ends_of(program),
             fields,
             targets,
             kinds,
@@ -279,6 +287,9 @@ fn run_case(
         use_mbuff: case.use_mbuff,
         update_data_ptr: case.update_data_ptr,
     };
+    let mode = Mode {
+        standard: case.standard,
+    };
     let program = case.program;
     let i = case.ids;
     let a = case.addresses;
@@ -291,6 +302,7 @@ fn run_case(
     run_lent(
         &body[program..],
         flags,
+        mode,
         case.named,
         &ids[..i],
         &addresses[..a],

@@ -32,47 +32,47 @@ LD-DW-IMM = 2
 abbrev pub MULDIVMOD : ℕ
 MULDIVMOD = 3
 
+abbrev pub LE : ℕ
+LE = 4
+
 abbrev pub BE : ℕ
-BE = 4
+BE = 5
 
 abbrev pub JA : ℕ
-JA = 5
+JA = 6
 
 abbrev pub JUMP : ℕ
-JUMP = 6
+JUMP = 7
 
 abbrev pub CALL : ℕ
-CALL = 7
+CALL = 8
 
 abbrev pub LD-ABS : ℕ
-LD-ABS = 8
+LD-ABS = 9
 
 abbrev pub LD-IND : ℕ
-LD-IND = 9
+LD-IND = 10
 
 abbrev pub LD-REG : ℕ
-LD-REG = 10
+LD-REG = 11
 
 abbrev pub ST-IMM : ℕ
-ST-IMM = 11
+ST-IMM = 12
 
 abbrev pub ST-REG : ℕ
-ST-REG = 12
+ST-REG = 13
 
 abbrev pub ALU : ℕ
-ALU = 13
+ALU = 14
 
 abbrev pub SHIFT : ℕ
-SHIFT = 14
+SHIFT = 15
 
 abbrev pub NEG : ℕ
-NEG = 15
+NEG = 16
 
 abbrev pub MOV : ℕ
-MOV = 16
-
-abbrev pub LE : ℕ
-LE = 17
+MOV = 17
 
 abbrev pub EXIT : ℕ
 EXIT = 18
@@ -83,6 +83,7 @@ numberOf Unknown = UNKNOWN
 numberOf Unimplemented = UNIMPLEMENTED
 numberOf (Known LdDwImm) = LD-DW-IMM
 numberOf (Known (MulDivMod o w s)) = MULDIVMOD
+numberOf (Known Le) = LE
 numberOf (Known Be) = BE
 numberOf (Known Ja) = JA
 numberOf (Known (Jump c w s)) = JUMP
@@ -96,7 +97,6 @@ numberOf (Known (Alu o w s)) = ALU
 numberOf (Known (Shift o w s)) = SHIFT
 numberOf (Known (Neg w)) = NEG
 numberOf (Known (Mov w s)) = MOV
-numberOf (Known Le) = LE
 numberOf (Known Exit) = EXIT
 
 -- what the table KINDS has to hold: at each opcode byte the number of the kind that RFC 9669's fields make it
@@ -138,7 +138,6 @@ conditionOf o = cases conditions Jsle (operationOf o)
 abbrev pub kinds : ℕ → List (Arm Lookup)
 kinds o =
     EXIT ⇒ Known Exit
-    ∷ LE ⇒ Known Le
     ∷ MOV ⇒ Known (Mov (widthOf o) (sourceOf o))
     ∷ NEG ⇒ Known (Neg (widthOf o))
     ∷ SHIFT ⇒ Known (Shift (shiftOf o) (widthOf o) (sourceOf o))
@@ -152,6 +151,7 @@ kinds o =
     ∷ JUMP ⇒ Known (Jump (conditionOf o) (widthOf o) (sourceOf o))
     ∷ JA ⇒ Known Ja
     ∷ BE ⇒ Known Be
+    ∷ LE ⇒ Known Le
     ∷ MULDIVMOD ⇒ Known (MulDivMod (mulOf o) (widthOf o) (sourceOf o))
     ∷ LD-DW-IMM ⇒ Known LdDwImm
     ∷ UNIMPLEMENTED ⇒ Unimplemented

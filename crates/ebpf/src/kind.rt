@@ -85,33 +85,33 @@ pub const KIND_LD_DW_IMM: u8 = 2;
 
 pub const KIND_MULDIVMOD: u8 = 3;
 
-pub const KIND_BE: u8 = 4;
+pub const KIND_LE: u8 = 4;
 
-pub const KIND_JA: u8 = 5;
+pub const KIND_BE: u8 = 5;
 
-pub const KIND_JUMP: u8 = 6;
+pub const KIND_JA: u8 = 6;
 
-pub const KIND_CALL: u8 = 7;
+pub const KIND_JUMP: u8 = 7;
 
-pub const KIND_LD_ABS: u8 = 8;
+pub const KIND_CALL: u8 = 8;
 
-pub const KIND_LD_IND: u8 = 9;
+pub const KIND_LD_ABS: u8 = 9;
 
-pub const KIND_LD_REG: u8 = 10;
+pub const KIND_LD_IND: u8 = 10;
 
-pub const KIND_ST_IMM: u8 = 11;
+pub const KIND_LD_REG: u8 = 11;
 
-pub const KIND_ST_REG: u8 = 12;
+pub const KIND_ST_IMM: u8 = 12;
 
-pub const KIND_ALU: u8 = 13;
+pub const KIND_ST_REG: u8 = 13;
 
-pub const KIND_SHIFT: u8 = 14;
+pub const KIND_ALU: u8 = 14;
 
-pub const KIND_NEG: u8 = 15;
+pub const KIND_SHIFT: u8 = 15;
 
-pub const KIND_MOV: u8 = 16;
+pub const KIND_NEG: u8 = 16;
 
-pub const KIND_LE: u8 = 17;
+pub const KIND_MOV: u8 = 17;
 
 pub const KIND_EXIT: u8 = 18;
 
@@ -468,6 +468,7 @@ fn kind_numbered(opc: u8, number: u8) -> Lookup
             width_of(opc),
             source_of(opc),
         )),
+        KIND_LE => Lookup::Known(Kind::Le),
         KIND_BE => Lookup::Known(Kind::Be),
         KIND_JA => Lookup::Known(Kind::Ja),
         KIND_JUMP => Lookup::Known(Kind::Jump(condition_of(opc), width_of(opc), source_of(opc))),
@@ -481,7 +482,6 @@ fn kind_numbered(opc: u8, number: u8) -> Lookup
         KIND_SHIFT => Lookup::Known(Kind::Shift(shift_of(opc), width_of(opc), source_of(opc))),
         KIND_NEG => Lookup::Known(Kind::Neg(width_of(opc))),
         KIND_MOV => Lookup::Known(Kind::Mov(width_of(opc), source_of(opc))),
-        KIND_LE => Lookup::Known(Kind::Le),
         KIND_EXIT => Lookup::Known(Kind::Exit),
         _ => Lookup::Unknown,
     }

@@ -51,33 +51,33 @@ module _ (filter : Filter) (slot : ℕ) (first : 8 * slot + 8 ≤ length (filter
   program = filter .program
 
   abbrev operand : Kind → Insn → Operand
-  operand k i = operandOf (filter .ids) (filter .addresses) k slot i (readAt program (slot + 1))
+  operand k i = operandOf filter k slot i (readAt program (slot + 1))
 
   fine-block : (k : Kind) (i : Insn) (value : ℕ) → (wideKind k ≡ true → 8 * slot + 16 ≤ length program)
-      → Sound program slot (blockOf k slot i value)
-  fine-block k i value h = record { inside = by (wideKind k) refl; short = slot-most k slot i value; jumps = slot-jumps k slot i value }
+      → Sound program slot (blockOf (filter .mode) k slot i value)
+  fine-block k i value h = record { inside = by (wideKind k) refl; short = slot-most (filter .mode) k slot i value; jumps = slot-jumps (filter .mode) k slot i value }
     where
       by : (w : Bool) → wideKind k ≡ w → 8 * slot + 8 * slotsWide w ≤ length program
       by true e = omega (arith, h e)
       by false e = omega arith
 
   -- a kind of one slot
-  narrow : (k : Kind) (i : Insn) → wideKind k ≡ false → Fine program slot (taken k slot i (operand k i))
+  narrow : (k : Kind) (i : Insn) → wideKind k ≡ false → Fine program slot (taken (filter .mode) k slot i (operand k i))
   narrow k i e = by (operand k i)
     where
       never : true ≡ false → ⊥
       never p = let z : _≡_ {A = ℕ} 0 1 = cc in omega arith
 
-      by : (o : Operand) → Fine program slot (taken k slot i o)
+      by : (o : Operand) → Fine program slot (taken (filter .mode) k slot i o)
       by (lacks r) = tt
       by (has value) = fine-block k i value (λ t. absurd (never (sym t ∙ e)))
 
   fine-wide : (i : Insn) (t : Bool) → ltb (length program) (8 * (slot + 1) + 8) ≡ t → (j : Insn)
-      → Fine program slot (taken LdDwImm slot i (wideValue slot i (pick t Torn (Whole j))))
+      → Fine program slot (taken (filter .mode) LdDwImm slot i (wideValue slot i (pick t Torn (Whole j))))
   fine-wide i true e j = tt
   fine-wide i false e j = fine-block LdDwImm i _ (λ _. omega (arith, ltb-false (length program) (8 * (slot + 1) + 8) e))
 
-  fine-kind : (k : Kind) (i : Insn) → Fine program slot (taken k slot i (operand k i))
+  fine-kind : (k : Kind) (i : Insn) → Fine program slot (taken (filter .mode) k slot i (operand k i))
   unfolding readAt
   fine-kind (LdAbs z) i = narrow (LdAbs z) i refl
   fine-kind (LdInd z) i = narrow (LdInd z) i refl
@@ -98,7 +98,7 @@ module _ (filter : Filter) (slot : ℕ) (first : 8 * slot + 8 ≤ length (filter
   fine-kind Exit i = narrow Exit i refl
 
   abbrev looked : Lookup → Insn → Step
-  looked l i = known (filter .ids) (filter .addresses) l slot i (readAt program (slot + 1))
+  looked l i = known filter l slot i (readAt program (slot + 1))
 
   fine-known : (l : Lookup) (i : Insn) → Fine program slot (looked l i)
   fine-known Unknown i = tt
@@ -118,7 +118,7 @@ step-fine filter slot = by (ltb (length program) (8 * slot + 8)) refl
     program = filter .program
 
     by : (t : Bool) → ltb (length program) (8 * slot + 8) ≡ t
-        → Fine program slot (stepRead (filter .ids) (filter .addresses) slot (pick t Torn (Whole (insnAt program slot))) (readAt program (slot + 1)))
+        → Fine program slot (stepRead filter slot (pick t Torn (Whole (insnAt program slot))) (readAt program (slot + 1)))
     by true e = tt
     by false e =
         let i = insnAt program slot in

@@ -6,3 +6,4 @@ pub mod Worked
 pub mod JumpTablesLaws
 pub mod FrameLaws
 pub mod NoTargets
+pub mod ModesLaws

@@ -8,6 +8,7 @@ use Rattle.ebpf.specs.declared.kind.Source.the-variants.{Imm, Reg}
 use Rattle.ebpf.specs.declared.kind.AluOp.{AluOp}
 use Rattle.ebpf.specs.declared.kind.ShiftOp.{ShiftOp}
 use Rattle.x86.specs.Code.{targetsOf}
+use Rattle.jit.specs.declared.Mode.{Mode}
 use Rattle.jit.specs.Slots.{aluCode, shiftCode, movCode}
 
 pub alu-none : (o : AluOp) (w : Width) (s : Source) (i : Insn) → targetsOf (aluCode o w s i) ≡ []
@@ -18,6 +19,6 @@ pub shift-none : (o : ShiftOp) (w : Width) (s : Source) (i : Insn) → targetsOf
 shift-none o w Imm i = refl
 shift-none o w Reg i = refl
 
-pub mov-none : (w : Width) (s : Source) (i : Insn) → targetsOf (movCode w s i) ≡ []
-mov-none w Imm i = refl
-mov-none w Reg i = refl
+pub mov-none : (m : Mode) (w : Width) (s : Source) (i : Insn) → targetsOf (movCode m w s i) ≡ []
+mov-none m w Imm i = refl
+mov-none m w Reg i = refl

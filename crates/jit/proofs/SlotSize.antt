@@ -1,6 +1,6 @@
--- No slot has more than 42 bytes, most have 14 at most, and none lists more than one jump.
+-- No slot has more than 42 bytes, most have 14 at most, and none lists more than one jump, in either mode.
 use mathlib.Core.Path.{_≡_}
-use mathlib.Core.Bool.{Bool, true, false, not}
+use mathlib.Core.Bool.{Bool, true, false, not, _&&_}
 use mathlib.Core.List.{[], _∷_, _++_}
 use Prim.Native.Nat.{ℕ, _+_, _%_, _^_, _≤_}
 use native.Mathlib.Omega.{arith}
@@ -11,6 +11,7 @@ use Rattle.base.specs.Pick.{pick}
 use Rattle.base.specs.declared.Width.{Width}
 use Rattle.base.specs.declared.Width.the-variants.{W32, W64}
 use Rattle.ebpf.specs.declared.insn.Insn.{Insn}
+use Rattle.ebpf.specs.declared.kind.Source.{Source}
 use Rattle.ebpf.specs.declared.kind.Source.the-variants.{Imm, Reg}
 use Rattle.ebpf.specs.declared.kind.MulOp.{MulOp}
 use Rattle.ebpf.specs.declared.kind.MulOp.the-variants.{Mul, Div, Mod}
@@ -23,7 +24,8 @@ use Rattle.x86.proofs.Lengths.{most, rex-most, plain-most}
 use Rattle.x86.specs.Code.{Dest, size, targetsOf}
 use Rattle.x86.proofs.CodeLaws.{size-append, targets-append}
 use Rattle.jit.specs.MulDivMod.{Code, when, unlessIs, byZero, guard, operate, fromRax, saved, restored, saves, restores, operated, computed, mulDivModImm, mulDivModReg}
-use Rattle.jit.specs.Slots.{regOf, targetOf, loadImm, swap, helperCall, localCall, slotCode}
+use Rattle.jit.specs.declared.Mode.{Mode}
+use Rattle.jit.specs.Slots.{regOf, targetOf, loadImm, swap, helperCall, localCall, lowerHalf, lowest16, clears, cleared, truncated, slotCode}
 use Rattle.jit.specs.Room.{shortSlot, longSlot}
 
 -- the sum of what each instruction can get, where it is a number
@@ -105,7 +107,7 @@ zero-most Mul d = omega (arith, plain-most (alu XOR W32 d d))
 zero-most Div d = omega (arith, plain-most (alu XOR W32 d d))
 zero-most Mod d = omega arith
 
-imm-most : (o : MulOp) (w : Width) (d i : ℕ) → size (mulDivModImm o w d i) ≤ longSlot
+imm-most : (o : MulOp) (w : Width) (d i : ℕ) → size (mulDivModImm o w d i) ≤ 22
 imm-most o w d i =
     chosen (eqb i 0) (byZero o d) (computed o w (op (aluImm MOV W64 RCX i) ∷ []) d) (omega (arith, zero-most o d))
     (omega (arith, computed-most o w (op (aluImm MOV W64 RCX i) ∷ []) d {k = 7} (omega (arith, plain-most (aluImm MOV W64 RCX i)))))
@@ -114,6 +116,50 @@ reg-most : (o : MulOp) (slot : ℕ) (w : Width) (s d : ℕ) → size (mulDivModR
 reg-most o slot w s d =
     both (guard o slot w s d) (computed o w (op (alu MOV W64 s RCX) ∷ []) d) (guard-most o slot w s d)
     (computed-most o w (op (alu MOV W64 s RCX) ∷ []) d {k = 3} (omega (arith, plain-most (alu MOV W64 s RCX))))
+
+-- MOD has a shorter guard than DIV, and so room for what standard mode puts ahead of it
+mod-most : (slot : ℕ) (w : Width) (s d : ℕ) → size (mulDivModReg Mod slot w s d) ≤ 34
+mod-most slot w s d =
+    both (guard Mod slot w s d) (computed Mod w (op (alu MOV W64 s RCX) ∷ []) d) {j = 16} {k = 18}
+    (omega (arith, plain-most (aluImm MOV W64 RCX slot), plain-most (alu TEST w s s)))
+    (computed-most Mod w (op (alu MOV W64 s RCX) ∷ []) d {k = 3} (omega (arith, plain-most (alu MOV W64 s RCX))))
+
+lower-most : (d : ℕ) → size (lowerHalf d) ≤ 3
+lower-most d = listing 3 (lowerHalf d) tt
+
+cleared-most : (m : Mode) (o : MulOp) (w : Width) (s : Source) (i : Insn) → size (cleared m o w s i) ≤ 3
+cleared-most m o w s i =
+    chosen (clears m o w s (i .imm)) (lowerHalf (regOf (i .dst))) [] (lower-most (regOf (i .dst))) (omega arith)
+
+by-imm-most : (m : Mode) (o : MulOp) (w : Width) (i : Insn) → size (cleared m o w Imm i ++ mulDivModImm o w (regOf (i .dst)) (i .imm)) ≤ longSlot
+by-imm-most m o w i =
+    let d = regOf (i .dst) in
+    omega (arith, both (cleared m o w Imm i) (mulDivModImm o w d (i .imm)) (cleared-most m o w Imm i) (imm-most o w d (i .imm)))
+
+by-reg-most : (m : Mode) (o : MulOp) (slot : ℕ) (w : Width) (i : Insn)
+    → size (cleared m o w Reg i ++ mulDivModReg o slot w (regOf (i .src)) (regOf (i .dst))) ≤ longSlot
+by-reg-most m o slot w i = by o
+  where
+    s : ℕ
+    s = regOf (i .src)
+
+    d : ℕ
+    d = regOf (i .dst)
+
+    -- nothing is put ahead of MUL and DIV
+    alone : (o : MulOp) (b : Bool) → size (when (b && false) (lowerHalf d) ++ mulDivModReg o slot w s d) ≤ longSlot
+    alone o true = reg-most o slot w s d
+    alone o false = reg-most o slot w s d
+
+    by : (o : MulOp) → size (cleared m o w Reg i ++ mulDivModReg o slot w s d) ≤ longSlot
+    by Mul = alone Mul (m .standard)
+    by Div = alone Div (m .standard)
+    by Mod = omega (arith, both (cleared m Mod w Reg i) (mulDivModReg Mod slot w s d) (cleared-most m Mod w Reg i) (mod-most slot w s d))
+
+truncated-most : (d bits : ℕ) → size (truncated d bits) ≤ shortSlot
+truncated-most d bits =
+    chosen (eqb bits 16) (lowest16 d) (pick (eqb bits 32) (lowerHalf d) []) (listing shortSlot (lowest16 d) tt)
+    (chosen (eqb bits 32) (lowerHalf d) [] (omega (arith, lower-most d)) (omega arith))
 
 swap-most : (d bits : ℕ) → size (swap d bits) ≤ shortSlot
 swap-most d bits =
@@ -145,32 +191,32 @@ mostOf (Jump c w s) = shortSlot
 mostOf Call = longSlot
 mostOf Exit = shortSlot
 
-pub slot-within : (k : Kind) (slot : ℕ) (i : Insn) (value : ℕ) → size (slotCode k slot i value) ≤ mostOf k
-slot-within (LdAbs z) slot i value = listing shortSlot (slotCode (LdAbs z) slot i value) tt
-slot-within (LdInd z) slot i value = listing shortSlot (slotCode (LdInd z) slot i value) tt
-slot-within LdDwImm slot i value = omega (arith, load-most (regOf (i .dst)) value)
-slot-within (LdReg z) slot i value = listing shortSlot (slotCode (LdReg z) slot i value) tt
-slot-within (StImm z) slot i value = listing shortSlot (slotCode (StImm z) slot i value) tt
-slot-within (StReg z) slot i value = listing shortSlot (slotCode (StReg z) slot i value) tt
-slot-within (Alu o w Imm) slot i value = listing shortSlot (slotCode (Alu o w Imm) slot i value) tt
-slot-within (Alu o w Reg) slot i value = listing shortSlot (slotCode (Alu o w Reg) slot i value) tt
-slot-within (Shift o w Imm) slot i value = listing shortSlot (slotCode (Shift o w Imm) slot i value) tt
-slot-within (Shift o w Reg) slot i value = listing shortSlot (slotCode (Shift o w Reg) slot i value) tt
-slot-within (Neg w) slot i value = listing shortSlot (slotCode (Neg w) slot i value) tt
-slot-within (MulDivMod o w Imm) slot i value = imm-most o w (regOf (i .dst)) (i .imm)
-slot-within (MulDivMod o w Reg) slot i value = reg-most o slot w (regOf (i .src)) (regOf (i .dst))
-slot-within (Mov w Imm) slot i value = listing shortSlot (slotCode (Mov w Imm) slot i value) tt
-slot-within (Mov w Reg) slot i value = listing shortSlot (slotCode (Mov w Reg) slot i value) tt
-slot-within Le slot i value = listing shortSlot (slotCode Le slot i value) tt
-slot-within Be slot i value = swap-most (regOf (i .dst)) (i .imm)
-slot-within Ja slot i value = listing shortSlot (slotCode Ja slot i value) tt
-slot-within (Jump c w Imm) slot i value = listing shortSlot (slotCode (Jump c w Imm) slot i value) tt
-slot-within (Jump c w Reg) slot i value = listing shortSlot (slotCode (Jump c w Reg) slot i value) tt
-slot-within Call slot i value = call-most (eqb (i .src) 0) value (targetOf slot (i .imm))
-slot-within Exit slot i value = listing shortSlot (slotCode Exit slot i value) tt
+pub slot-within : (m : Mode) (k : Kind) (slot : ℕ) (i : Insn) (value : ℕ) → size (slotCode m k slot i value) ≤ mostOf k
+slot-within m (LdAbs z) slot i value = listing shortSlot (slotCode m (LdAbs z) slot i value) tt
+slot-within m (LdInd z) slot i value = listing shortSlot (slotCode m (LdInd z) slot i value) tt
+slot-within m LdDwImm slot i value = omega (arith, load-most (regOf (i .dst)) value)
+slot-within m (LdReg z) slot i value = listing shortSlot (slotCode m (LdReg z) slot i value) tt
+slot-within m (StImm z) slot i value = listing shortSlot (slotCode m (StImm z) slot i value) tt
+slot-within m (StReg z) slot i value = listing shortSlot (slotCode m (StReg z) slot i value) tt
+slot-within m (Alu o w Imm) slot i value = listing shortSlot (slotCode m (Alu o w Imm) slot i value) tt
+slot-within m (Alu o w Reg) slot i value = listing shortSlot (slotCode m (Alu o w Reg) slot i value) tt
+slot-within m (Shift o w Imm) slot i value = listing shortSlot (slotCode m (Shift o w Imm) slot i value) tt
+slot-within m (Shift o w Reg) slot i value = listing shortSlot (slotCode m (Shift o w Reg) slot i value) tt
+slot-within m (Neg w) slot i value = listing shortSlot (slotCode m (Neg w) slot i value) tt
+slot-within m (MulDivMod o w Imm) slot i value = by-imm-most m o w i
+slot-within m (MulDivMod o w Reg) slot i value = by-reg-most m o slot w i
+slot-within m (Mov w Imm) slot i value = listing shortSlot (slotCode m (Mov w Imm) slot i value) tt
+slot-within m (Mov w Reg) slot i value = listing shortSlot (slotCode m (Mov w Reg) slot i value) tt
+slot-within m Le slot i value = let d = regOf (i .dst) in chosen (m .standard) (truncated d (i .imm)) [] (truncated-most d (i .imm)) (omega arith)
+slot-within m Be slot i value = swap-most (regOf (i .dst)) (i .imm)
+slot-within m Ja slot i value = listing shortSlot (slotCode m Ja slot i value) tt
+slot-within m (Jump c w Imm) slot i value = listing shortSlot (slotCode m (Jump c w Imm) slot i value) tt
+slot-within m (Jump c w Reg) slot i value = listing shortSlot (slotCode m (Jump c w Reg) slot i value) tt
+slot-within m Call slot i value = call-most (eqb (i .src) 0) value (targetOf slot (i .imm))
+slot-within m Exit slot i value = listing shortSlot (slotCode m Exit slot i value) tt
 
-pub slot-most : (k : Kind) (slot : ℕ) (i : Insn) (value : ℕ) → size (slotCode k slot i value) ≤ longSlot
-slot-most k slot i value = le-trans (slot-within k slot i value) (by k)
+pub slot-most : (m : Mode) (k : Kind) (slot : ℕ) (i : Insn) (value : ℕ) → size (slotCode m k slot i value) ≤ longSlot
+slot-most m k slot i value = le-trans (slot-within m k slot i value) (by k)
   where
     by : (k : Kind) → mostOf k ≤ longSlot
     by (LdAbs z) = omega arith
@@ -246,30 +292,42 @@ swap-jumps d bits =
     (omega arith)
     (jumps-chosen (eqb bits 32) (op (bswap W32 d) ∷ []) (op (bswap W64 d) ∷ []) (omega arith) (omega arith))
 
-pub slot-jumps : (k : Kind) (slot : ℕ) (i : Insn) (value : ℕ) → length (targetsOf (slotCode k slot i value)) ≤ 1
-slot-jumps (LdAbs z) slot i value = omega arith
-slot-jumps (LdInd z) slot i value = omega arith
-slot-jumps LdDwImm slot i value = omega arith
-slot-jumps (LdReg z) slot i value = omega arith
-slot-jumps (StImm z) slot i value = omega arith
-slot-jumps (StReg z) slot i value = omega arith
-slot-jumps (Alu o w Imm) slot i value = omega arith
-slot-jumps (Alu o w Reg) slot i value = omega arith
-slot-jumps (Shift o w Imm) slot i value = omega arith
-slot-jumps (Shift o w Reg) slot i value = omega arith
-slot-jumps (Neg w) slot i value = omega arith
-slot-jumps (MulDivMod o w Imm) slot i value = omega (arith, imm-jumps o w (regOf (i .dst)) (i .imm))
-slot-jumps (MulDivMod o w Reg) slot i value =
+pub cleared-jumps : (m : Mode) (o : MulOp) (w : Width) (s : Source) (i : Insn) → length (targetsOf (cleared m o w s i)) ≤ 0
+cleared-jumps m o w s i = jumps-chosen (clears m o w s (i .imm)) (lowerHalf (regOf (i .dst))) [] (omega arith) (omega arith)
+
+pub truncated-jumps : (m : Mode) (d bits : ℕ) → length (targetsOf (when (m .standard) (truncated d bits))) ≤ 0
+truncated-jumps m d bits =
+    jumps-chosen (m .standard) (truncated d bits) []
+    (jumps-chosen (eqb bits 16) (lowest16 d) (pick (eqb bits 32) (lowerHalf d) []) (omega arith)
+    (jumps-chosen (eqb bits 32) (lowerHalf d) [] (omega arith) (omega arith)))
+    (omega arith)
+
+pub slot-jumps : (m : Mode) (k : Kind) (slot : ℕ) (i : Insn) (value : ℕ) → length (targetsOf (slotCode m k slot i value)) ≤ 1
+slot-jumps m (LdAbs z) slot i value = omega arith
+slot-jumps m (LdInd z) slot i value = omega arith
+slot-jumps m LdDwImm slot i value = omega arith
+slot-jumps m (LdReg z) slot i value = omega arith
+slot-jumps m (StImm z) slot i value = omega arith
+slot-jumps m (StReg z) slot i value = omega arith
+slot-jumps m (Alu o w Imm) slot i value = omega arith
+slot-jumps m (Alu o w Reg) slot i value = omega arith
+slot-jumps m (Shift o w Imm) slot i value = omega arith
+slot-jumps m (Shift o w Reg) slot i value = omega arith
+slot-jumps m (Neg w) slot i value = omega arith
+slot-jumps m (MulDivMod o w Imm) slot i value =
+    let d = regOf (i .dst) in
+    rw (jumps-both (cleared m o w Imm i) (mulDivModImm o w d (i .imm))) (omega (arith, cleared-jumps m o w Imm i, imm-jumps o w d (i .imm)))
+slot-jumps m (MulDivMod o w Reg) slot i value =
     let s = regOf (i .src) in
     let d = regOf (i .dst) in
-    rw (jumps-both (guard o slot w s d) (computed o w (op (alu MOV W64 s RCX) ∷ []) d))
-    (omega (arith, guard-jumps o slot w s d, computed-none o w (op (alu MOV W64 s RCX) ∷ []) d (omega arith)))
-slot-jumps (Mov w Imm) slot i value = omega arith
-slot-jumps (Mov w Reg) slot i value = omega arith
-slot-jumps Le slot i value = omega arith
-slot-jumps Be slot i value = omega (arith, swap-jumps (regOf (i .dst)) (i .imm))
-slot-jumps Ja slot i value = omega arith
-slot-jumps (Jump c w Imm) slot i value = omega arith
-slot-jumps (Jump c w Reg) slot i value = omega arith
-slot-jumps Call slot i value = jumps-chosen (eqb (i .src) 0) (helperCall value) (localCall (targetOf slot (i .imm))) (omega arith) (omega arith)
-slot-jumps Exit slot i value = omega arith
+    rw (jumps-both (cleared m o w Reg i) (mulDivModReg o slot w s d), jumps-both (guard o slot w s d) (computed o w (op (alu MOV W64 s RCX) ∷ []) d))
+    (omega (arith, cleared-jumps m o w Reg i, guard-jumps o slot w s d, computed-none o w (op (alu MOV W64 s RCX) ∷ []) d (omega arith)))
+slot-jumps m (Mov w Imm) slot i value = omega arith
+slot-jumps m (Mov w Reg) slot i value = omega arith
+slot-jumps m Le slot i value = omega (arith, truncated-jumps m (regOf (i .dst)) (i .imm))
+slot-jumps m Be slot i value = omega (arith, swap-jumps (regOf (i .dst)) (i .imm))
+slot-jumps m Ja slot i value = omega arith
+slot-jumps m (Jump c w Imm) slot i value = omega arith
+slot-jumps m (Jump c w Reg) slot i value = omega arith
+slot-jumps m Call slot i value = jumps-chosen (eqb (i .src) 0) (helperCall value) (localCall (targetOf slot (i .imm))) (omega arith) (omega arith)
+slot-jumps m Exit slot i value = omega arith

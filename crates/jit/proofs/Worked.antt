@@ -1,5 +1,5 @@
--- Worked bytes, as rbpf gives them: one table under one theorem about the definitions, which antt computes.
--- Both flags are false and no helper is listed; the page has 4,096 bytes.
+-- Worked bytes, as rbpf gives them, and behind them those of standard mode: one table under one theorem about the definitions, which antt
+-- computes. Both flags are false and no helper is listed; the page has 4,096 bytes. A refused program's line has its number and its slot.
 use mathlib.Core.Path.{_≡_, refl}
 use mathlib.Core.Bool.{false}
 use mathlib.Core.List.{List, [], _∷_, _++_, map}
@@ -13,6 +13,9 @@ use Rattle.jit.specs.Slots.{regOf, targetOf, loadImm}
 use Rattle.jit.specs.Frame.{saves, packetStart, packetEnd, argument, enter, prologue, epilogue}
 use Rattle.jit.specs.Translation.{Inputs, Walk, refused, done, flat, walkOf, rest, stepAt, helperOf, goodTarget, Outcome, no, yes, sizesOf, translationOf}
 use Rattle.jit.specs.JumpTables.{kindsIn, makersIn}
+use Rattle.jit.specs.Refusals.{numberOf, slotOf}
+use Rattle.jit.specs.declared.Mode.{Mode}
+use Rattle.jit.specs.Modes.{rust, standard}
 
 -- what a line of the document speaks of
 pub data Part : Type 0 where
@@ -31,14 +34,15 @@ pub data Part : Type 0 where
   makers : Part
 
 pub record Line : Type 0 where
+  pub mode : Mode
   pub program : List ℕ
   pub part : Part
   pub bytes : List ℕ
 
-abbrev inputs : List ℕ → Inputs
-inputs program =
+abbrev inputs : Mode → List ℕ → Inputs
+inputs mode program =
     record {
-      filter = record { program = program; ids = []; addresses = [] };
+      filter = record { program = program; mode = mode; ids = []; addresses = [] };
       flags = record { use_mbuff = false; update_data_ptr = false };
       page = 4096;
       locations = 2049;
@@ -49,7 +53,7 @@ inputs program =
     }
 
 abbrev partOf : Inputs → Part → Outcome → Walk → List ℕ
-partOf x p (no r) w = []
+partOf x p (no r) w = numberOf r ∷ slotOf r ∷ []
 partOf x code (yes c l f t) w = c
 partOf x slots (yes c l f t) w = take (length c - 50) (drop 34 c)
 partOf x unfilled (yes c l f t) (refused r) = []
@@ -60,14 +64,17 @@ partOf x kinds (yes c l f t) w = kindsIn x (yes c l f t)
 partOf x makers (yes c l f t) w = makersIn x (yes c l f t)
 
 abbrev given : Line → List ℕ
-given x = partOf (inputs (x .program)) (x .part) (translationOf (inputs (x .program))) (walkOf (inputs (x .program)))
+given x = let asked = inputs (x .mode) (x .program) in partOf asked (x .part) (translationOf asked) (walkOf asked)
 
 -- a slot: opcode; registers, src · 16 + dst; offset and immediate, lowest byte first
 abbrev slot : (o r a b c d e f : ℕ) → List ℕ
 slot o r a b c d e f = o ∷ r ∷ a ∷ b ∷ c ∷ d ∷ e ∷ f ∷ []
 
 abbrev line : List ℕ → Part → List ℕ → Line
-line program part bytes = record { program = program; part = part; bytes = bytes }
+line program part bytes = record { mode = rust; program = program; part = part; bytes = bytes }
+
+abbrev standardLine : List ℕ → Part → List ℕ → Line
+standardLine program part bytes = record { mode = standard; program = program; part = part; bytes = bytes }
 
 -- a wide load, slots 0 and 1; JEQ, JA, DIV and MOD by a register, a local call, EXIT
 abbrev jumping : List ℕ
@@ -112,7 +119,33 @@ table =
     line jumping makers (8 ∷ 2 ∷ 3 ∷ 4 ∷ 5 ∷ 6 ∷ []) ∷
     -- the empty program has the prologue's alone
     line [] kinds (2 ∷ []) ∷
-    line [] makers (0 ∷ []) ∷ []
+    line [] makers (0 ∷ []) ∷
+    -- MOV32_REG r0, r0, MOD32_IMM r0, 0, and LE 16 and LE 8 of r0: the 64-bit copy, and no bytes
+    line (slot 0xbc 0x00 0 0 0 0 0 0) slots (0x48 ∷ 0x89 ∷ 0xc0 ∷ []) ∷
+    line (slot 0x94 0x00 0 0 0 0 0 0) slots [] ∷
+    line (slot 0xd4 0x00 0 0 16 0 0 0) slots [] ∷
+    line (slot 0xd4 0x00 0 0 8 0 0 0) slots [] ∷
+    -- STANDARD MODE: MOV32_REG r0, r0, and r8 from r0, which is R14
+    standardLine (slot 0xbc 0x00 0 0 0 0 0 0) slots (0x89 ∷ 0xc0 ∷ []) ∷
+    standardLine (slot 0xbc 0x08 0 0 0 0 0 0) slots (0x41 ∷ 0x89 ∷ 0xc6 ∷ []) ∷
+    -- MOD32_IMM by 0 of r0, and of r4, which is R9; by 2, as it is in rbpf
+    standardLine (slot 0x94 0x00 0 0 0 0 0 0) slots (0x89 ∷ 0xc0 ∷ []) ∷
+    standardLine (slot 0x94 0x04 0 0 0 0 0 0) slots (0x45 ∷ 0x89 ∷ 0xc9 ∷ []) ∷
+    standardLine (slot 0x94 0x00 0 0 2 0 0 0) slots
+    (0x52 ∷ 0x48 ∷ 0xc7 ∷ 0xc1 ∷ 0x02 ∷ 0x00 ∷ 0x00 ∷ 0x00 ∷ 0x48 ∷ 0x89 ∷ 0xc0 ∷ 0x31 ∷ 0xd2 ∷ 0xf7 ∷ 0xf1
+    ∷ 0x48 ∷ 0x89 ∷ 0xd0 ∷ 0x5a ∷ []) ∷
+    -- MOD32_REG r1 by r2: two bytes, and then rbpf's
+    standardLine (slot 0x9c 0x21 0 0 0 0 0 0) unfilled
+    (0x89 ∷ 0xff ∷ 0x48 ∷ 0xc7 ∷ 0xc1 ∷ 0x00 ∷ 0x00 ∷ 0x00 ∷ 0x00 ∷ 0x85 ∷ 0xf6 ∷ 0x0f ∷ 0x84 ∷ 0x00 ∷ 0x00 ∷ 0x00 ∷ 0x00
+    ∷ 0x50 ∷ 0x52 ∷ 0x48 ∷ 0x89 ∷ 0xf1 ∷ 0x48 ∷ 0x89 ∷ 0xf8 ∷ 0x31 ∷ 0xd2 ∷ 0xf7 ∷ 0xf1 ∷ 0x48 ∷ 0x89 ∷ 0xd7 ∷ 0x5a ∷ 0x58 ∷ []) ∷
+    standardLine (slot 0x9c 0x21 0 0 0 0 0 0) lengths (84 ∷ 2 ∷ []) ∷
+    -- LE 16 of r0, and of r7, which is R13; LE 32 and LE 64 of r0; LE 8, and BE 8: refused with 10 at slot 0
+    standardLine (slot 0xd4 0x00 0 0 16 0 0 0) slots (0x81 ∷ 0xe0 ∷ 0xff ∷ 0xff ∷ 0x00 ∷ 0x00 ∷ []) ∷
+    standardLine (slot 0xd4 0x07 0 0 16 0 0 0) slots (0x41 ∷ 0x81 ∷ 0xe5 ∷ 0xff ∷ 0xff ∷ 0x00 ∷ 0x00 ∷ []) ∷
+    standardLine (slot 0xd4 0x00 0 0 32 0 0 0) slots (0x89 ∷ 0xc0 ∷ []) ∷
+    standardLine (slot 0xd4 0x00 0 0 64 0 0 0) slots [] ∷
+    standardLine (slot 0xd4 0x00 0 0 8 0 0 0) slots (10 ∷ 0 ∷ []) ∷
+    standardLine (slot 0xdc 0x00 0 0 8 0 0 0) slots (10 ∷ 0 ∷ []) ∷ []
 
 pub worked : map given table ≡ map (λ (x : Line). x .bytes) table
 unfolding table translationOf sizesOf rest stepAt helperOf goodTarget readAt insnAt kindOf regOf targetOf loadImm

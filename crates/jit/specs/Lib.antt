@@ -8,3 +8,4 @@ pub mod Translation
 pub mod JumpTables
 pub mod Lent
 pub mod Passes
+pub mod Modes

@@ -1,6 +1,8 @@
 -- What each kind of slot becomes: the match of `jit_compile` in the Rust, kind by kind. Where RFC 9669 means something else,
--- docs/DIFFERENCES.md has an entry.
-use mathlib.Core.List.{[], _∷_}
+-- docs/DIFFERENCES.md has an entry; in standard mode three kinds have the RFC's code (`cleared`, `copyWidth`, `truncated`), and every other
+-- kind has the Rust's in both modes (Modes.antt).
+use mathlib.Core.Bool.{Bool, true, false, _&&_}
+use mathlib.Core.List.{[], _∷_, _++_}
 use Prim.Native.Nat.{ℕ, _+_, _%_, _^_}
 use lib.Dec.{ltb, eqb}
 use lib.ListN.{getD}
@@ -15,6 +17,7 @@ use Rattle.ebpf.specs.declared.kind.AluOp.the-variants.{Add, Sub, Or, And, Xor}
 use Rattle.ebpf.specs.declared.kind.ShiftOp.{ShiftOp}
 use Rattle.ebpf.specs.declared.kind.ShiftOp.the-variants.{Lsh, Rsh, Arsh}
 use Rattle.ebpf.specs.declared.kind.MulOp.{MulOp}
+use Rattle.ebpf.specs.declared.kind.MulOp.the-variants.{Mul, Div, Mod}
 use Rattle.ebpf.specs.declared.kind.Condition.{Condition}
 use Rattle.ebpf.specs.declared.kind.Condition.the-variants.{Jeq, Jgt, Jge, Jset, Jne, Jsgt, Jsge, Jlt, Jle, Jslt, Jsle}
 use Rattle.ebpf.specs.declared.kind.Kind.{Kind}
@@ -24,7 +27,8 @@ use Rattle.x86.specs.Instr as x86
 use Rattle.x86.specs.Instr.{op, push, pop, alu, aluImm, shiftImm, shiftCl, unary, movabs, rol16, bswap, load, store, storeImm, immBits, jump, jmp, call, jcc}
 use Rattle.x86.specs.Instr.{callReg, ret, ADD, OR, AND, SUB, XOR, CMP, MOV, TEST, SHL, SHR, SAR, NEG, JB, JAE, JE, JNE, JBE, JA, JL, JGE, JLE, JG}
 use Rattle.x86.specs.Code.{to}
-use Rattle.jit.specs.MulDivMod.{Code, mulDivModImm, mulDivModReg}
+use Rattle.jit.specs.declared.Mode.{Mode}
+use Rattle.jit.specs.MulDivMod.{Code, when, mulDivModImm, mulDivModReg}
 
 -- REGISTER_MAP
 unfoldable pub regOf : ℕ → ℕ
@@ -101,7 +105,37 @@ localCall target =
     ∷ op (pop RBX)
     ∷ []
 
--- Arithmetic, by where the second operand comes from. A shift by a register takes its count from CL; MOV32_REG is the 64-bit copy.
+-- Standard mode. The lower half of a register, and its lowest 16 bits, all above them cleared:
+abbrev pub lowerHalf : (dst : ℕ) → Code
+lowerHalf dst = op (alu MOV W32 dst dst) ∷ []
+
+abbrev pub lowest16 : (dst : ℕ) → Code
+lowest16 dst = op (aluImm AND W32 dst 0xffff) ∷ []
+
+-- RFC 9669, section 4.1: modulo by zero leaves dst, at 32 bits its lower half. So it is where the divisor is the immediate 0, and may be where
+-- it is a register; the Rust's code for the slot, which comes behind, reads no more of dst than the lower half.
+abbrev pub leavesDst : MulOp → Width → Source → (imm : ℕ) → Bool
+leavesDst Mul w s imm = false
+leavesDst Div w s imm = false
+leavesDst Mod W64 s imm = false
+leavesDst Mod W32 Imm imm = eqb imm 0
+leavesDst Mod W32 Reg imm = true
+
+abbrev pub clears : Mode → MulOp → Width → Source → (imm : ℕ) → Bool
+clears m o w s imm = m .standard && leavesDst o w s imm
+
+abbrev pub cleared : Mode → MulOp → Width → Source → Insn → Code
+cleared m o w s i = when (clears m o w s (i .imm)) (lowerHalf (regOf (i .dst)))
+
+-- section 4.1: MOV32_REG moves 32 bits and clears the upper half; the Rust copies all 64
+abbrev pub copyWidth : Mode → Width → Width
+copyWidth m w = pick (m .standard) w W64
+
+-- section 4.2, on a processor whose order of bytes is LE's: of 16 and 32 bits these remain, and 64 are all
+abbrev pub truncated : (dst bits : ℕ) → Code
+truncated dst bits = pick (eqb bits 16) (lowest16 dst) (pick (eqb bits 32) (lowerHalf dst) [])
+
+-- Arithmetic, by where the second operand comes from. A shift by a register takes its count from CL.
 abbrev pub aluCode : AluOp → Width → Source → Insn → Code
 aluCode o w Imm i = op (aluImm (aluOf o) w (regOf (i .dst)) (i .imm)) ∷ []
 aluCode o w Reg i = op (alu (aluOf o) w (regOf (i .src)) (regOf (i .dst))) ∷ []
@@ -114,9 +148,9 @@ abbrev pub mulDivModCode : MulOp → Width → Source → (slot : ℕ) → Insn 
 mulDivModCode o w Imm slot i = mulDivModImm o w (regOf (i .dst)) (i .imm)
 mulDivModCode o w Reg slot i = mulDivModReg o slot w (regOf (i .src)) (regOf (i .dst))
 
-abbrev pub movCode : Width → Source → Insn → Code
-movCode w Imm i = op (aluImm MOV w (regOf (i .dst)) (i .imm)) ∷ []
-movCode w Reg i = op (alu MOV W64 (regOf (i .src)) (regOf (i .dst))) ∷ []
+abbrev pub movCode : Mode → Width → Source → Insn → Code
+movCode m w Imm i = op (aluImm MOV w (regOf (i .dst)) (i .imm)) ∷ []
+movCode m w Reg i = op (alu MOV (copyWidth m w) (regOf (i .src)) (regOf (i .dst))) ∷ []
 
 -- a conditional jump: the comparison, at the operation's width, and the jump
 abbrev pub compare : Condition → Width → Source → Insn → x86.Plain
@@ -131,25 +165,25 @@ abbrev pub callCode : (slot : ℕ) → Insn → (value : ℕ) → Code
 callCode slot i value = pick (eqb (i .src) 0) (helperCall value) (localCall (targetOf slot (i .imm)))
 
 -- The code of a slot. `value` is what the slot takes from elsewhere: a wide load's constant, the address of a helper.
-abbrev pub slotCode : Kind → (slot : ℕ) → Insn → (value : ℕ) → Code
+abbrev pub slotCode : Mode → Kind → (slot : ℕ) → Insn → (value : ℕ) → Code
 -- class LD: the packet is at R10
-slotCode (LdAbs z) slot i value = op (load z R10 RAX (i .imm)) ∷ []
-slotCode (LdInd z) slot i value = op (alu MOV W64 R10 R11) ∷ op (alu ADD W64 (regOf (i .src)) R11) ∷ op (load z R11 RAX (i .imm)) ∷ []
-slotCode LdDwImm slot i value = op (loadImm (regOf (i .dst)) value) ∷ []
+slotCode m (LdAbs z) slot i value = op (load z R10 RAX (i .imm)) ∷ []
+slotCode m (LdInd z) slot i value = op (alu MOV W64 R10 R11) ∷ op (alu ADD W64 (regOf (i .src)) R11) ∷ op (load z R11 RAX (i .imm)) ∷ []
+slotCode m LdDwImm slot i value = op (loadImm (regOf (i .dst)) value) ∷ []
 -- classes LDX, ST, STX
-slotCode (LdReg z) slot i value = op (load z (regOf (i .src)) (regOf (i .dst)) (i .off)) ∷ []
-slotCode (StImm z) slot i value = op (storeImm z (regOf (i .dst)) (i .off) (i .imm % 2 ^ immBits z)) ∷ []
-slotCode (StReg z) slot i value = op (store z (regOf (i .src)) (regOf (i .dst)) (i .off)) ∷ []
+slotCode m (LdReg z) slot i value = op (load z (regOf (i .src)) (regOf (i .dst)) (i .off)) ∷ []
+slotCode m (StImm z) slot i value = op (storeImm z (regOf (i .dst)) (i .off) (i .imm % 2 ^ immBits z)) ∷ []
+slotCode m (StReg z) slot i value = op (store z (regOf (i .src)) (regOf (i .dst)) (i .off)) ∷ []
 -- classes ALU, ALU64
-slotCode (Alu o w s) slot i value = aluCode o w s i
-slotCode (Shift o w s) slot i value = shiftCode o w s i
-slotCode (Neg w) slot i value = op (unary NEG w (regOf (i .dst))) ∷ []
-slotCode (MulDivMod o w s) slot i value = mulDivModCode o w s slot i
-slotCode (Mov w s) slot i value = movCode w s i
-slotCode Le slot i value = []
-slotCode Be slot i value = swap (regOf (i .dst)) (i .imm)
+slotCode m (Alu o w s) slot i value = aluCode o w s i
+slotCode m (Shift o w s) slot i value = shiftCode o w s i
+slotCode m (Neg w) slot i value = op (unary NEG w (regOf (i .dst))) ∷ []
+slotCode m (MulDivMod o w s) slot i value = cleared m o w s i ++ mulDivModCode o w s slot i
+slotCode m (Mov w s) slot i value = movCode m w s i
+slotCode m Le slot i value = when (m .standard) (truncated (regOf (i .dst)) (i .imm))
+slotCode m Be slot i value = swap (regOf (i .dst)) (i .imm)
 -- classes JMP, JMP32
-slotCode Ja slot i value = jump jmp (to (targetOf slot (i .off))) ∷ []
-slotCode (Jump c w s) slot i value = jumpCode c w s slot i
-slotCode Call slot i value = callCode slot i value
-slotCode Exit slot i value = ret ∷ []
+slotCode m Ja slot i value = jump jmp (to (targetOf slot (i .off))) ∷ []
+slotCode m (Jump c w s) slot i value = jumpCode c w s slot i
+slotCode m Call slot i value = callCode slot i value
+slotCode m Exit slot i value = ret ∷ []

@@ -1,4 +1,4 @@
--- The whole translation: for every program, pair of flags, helper lists, and lengths of the code buffer and the five tables either the
+-- The whole translation: for every program, mode, pair of flags, helper lists, and lengths of the code buffer and the five tables either the
 -- finished code with the first entries of three tables, or one refusal; what the other two hold is said by JumpTables.antt. Document 01
 -- gives the order: the sizes, then the slots from 0 upward, then the epilogue, then the targets.
 use mathlib.Core.Bool.{Bool, true, false, _&&_, _||_, not}
@@ -18,6 +18,7 @@ use Rattle.ebpf.specs.declared.kind.Kind.the-variants.{LdAbs, LdInd, LdDwImm, L
 use Rattle.ebpf.specs.declared.kind.Lookup.{Lookup}
 use Rattle.ebpf.specs.declared.kind.Lookup.the-variants.{Known, Unimplemented, Unknown}
 use Rattle.jit.specs.declared.Flags.{Flags}
+use Rattle.jit.specs.declared.Mode.{Mode}
 use Rattle.jit.specs.declared.Helper.{Helper}
 use Rattle.jit.specs.declared.Helper.the-variants.{Address, Missing}
 use Rattle.jit.specs.declared.Refusal.{Refusal}
@@ -34,9 +35,10 @@ use Rattle.jit.specs.MulDivMod.{Code}
 use Rattle.jit.specs.Slots.{slotCode}
 use Rattle.jit.specs.Frame.{prologue, epilogue}
 
--- A filter: the program, and the helpers' ids and addresses.
+-- A filter: the program, the mode that it is translated in, and the helpers' ids and addresses.
 pub record Filter : Type 0 where
   pub program : List ℕ
+  pub mode : Mode
   pub ids : List ℕ
   pub addresses : List ℕ
 
@@ -91,8 +93,8 @@ wideKind (JumpIf c w s) = false
 wideKind Call = false
 wideKind Exit = false
 
-abbrev pub blockOf : Kind → ℕ → Insn → ℕ → Block
-blockOf k slot i value = record { code = slotCode k slot i value; wide = wideKind k }
+abbrev pub blockOf : Mode → Kind → ℕ → Insn → ℕ → Block
+blockOf m k slot i value = record { code = slotCode m k slot i value; wide = wideKind k }
 
 -- What a slot takes from elsewhere: the second half of a wide load's constant, the address of a helper. Or what is wrong with it.
 pub data Operand : Type 0 where
@@ -106,6 +108,13 @@ wideValue slot i (Whole j) = has (i .imm + 2 ^ 32 * j .imm)
 abbrev pub swapBits : ℕ → Bool
 swapBits bits = eqb bits 16 || (eqb bits 32 || eqb bits 64)
 
+-- BE has to have 16, 32 or 64 bits, and so has LE in standard mode; the Rust takes LE of any
+abbrev pub leBits : Mode → ℕ → Bool
+leBits m bits = pick (m .standard) (swapBits bits) true
+
+abbrev pub swapValue : Bool → ℕ → Operand
+swapValue known slot = pick known (has 0) (lacks (Refusal.BadSwap (at slot)))
+
 abbrev pub helperValue : ℕ → Helper → Operand
 helperValue slot (Address a) = has a
 helperValue slot Missing = lacks (Refusal.UnknownHelper (at slot))
@@ -117,49 +126,49 @@ callValue ids addresses slot i =
     (pick (eqb (i .src) 1) (has 0) (lacks (Refusal.BadCall (at slot))))
 
 -- `next` is what reading the next slot gives
-abbrev pub operandOf : (ids addresses : List ℕ) → Kind → ℕ → Insn → (next : Read) → Operand
-operandOf ids addresses (LdAbs z) slot i next = has 0
-operandOf ids addresses (LdInd z) slot i next = has 0
-operandOf ids addresses LdDwImm slot i next = wideValue slot i next
-operandOf ids addresses (LdReg z) slot i next = has 0
-operandOf ids addresses (StImm z) slot i next = has 0
-operandOf ids addresses (StReg z) slot i next = has 0
-operandOf ids addresses (Alu o w s) slot i next = has 0
-operandOf ids addresses (Shift o w s) slot i next = has 0
-operandOf ids addresses (Neg w) slot i next = has 0
-operandOf ids addresses (MulDivMod o w s) slot i next = has 0
-operandOf ids addresses (Mov w s) slot i next = has 0
-operandOf ids addresses Le slot i next = has 0
-operandOf ids addresses Be slot i next = pick (swapBits (i .imm)) (has 0) (lacks (Refusal.BadSwap (at slot)))
-operandOf ids addresses Ja slot i next = has 0
-operandOf ids addresses (JumpIf c w s) slot i next = has 0
-operandOf ids addresses Call slot i next = callValue ids addresses slot i
-operandOf ids addresses Exit slot i next = has 0
+abbrev pub operandOf : Filter → Kind → ℕ → Insn → (next : Read) → Operand
+operandOf filter (LdAbs z) slot i next = has 0
+operandOf filter (LdInd z) slot i next = has 0
+operandOf filter LdDwImm slot i next = wideValue slot i next
+operandOf filter (LdReg z) slot i next = has 0
+operandOf filter (StImm z) slot i next = has 0
+operandOf filter (StReg z) slot i next = has 0
+operandOf filter (Alu o w s) slot i next = has 0
+operandOf filter (Shift o w s) slot i next = has 0
+operandOf filter (Neg w) slot i next = has 0
+operandOf filter (MulDivMod o w s) slot i next = has 0
+operandOf filter (Mov w s) slot i next = has 0
+operandOf filter Le slot i next = swapValue (leBits (filter .mode) (i .imm)) slot
+operandOf filter Be slot i next = swapValue (swapBits (i .imm)) slot
+operandOf filter Ja slot i next = has 0
+operandOf filter (JumpIf c w s) slot i next = has 0
+operandOf filter Call slot i next = callValue (filter .ids) (filter .addresses) slot i
+operandOf filter Exit slot i next = has 0
 
 pub data Step : Type 0 where
   stop : Refusal → Step
   go : Block → Step
 
-abbrev pub taken : Kind → ℕ → Insn → Operand → Step
-taken k slot i (lacks r) = stop r
-taken k slot i (has value) = go (blockOf k slot i value)
+abbrev pub taken : Mode → Kind → ℕ → Insn → Operand → Step
+taken m k slot i (lacks r) = stop r
+taken m k slot i (has value) = go (blockOf m k slot i value)
 
-abbrev pub known : (ids addresses : List ℕ) → Lookup → ℕ → Insn → (next : Read) → Step
-known ids addresses Unknown slot i next = stop (Refusal.UnknownOpcode (at slot))
-known ids addresses Unimplemented slot i next = stop (Refusal.Unimplemented (at slot))
-known ids addresses (Known k) slot i next = taken k slot i (operandOf ids addresses k slot i next)
+abbrev pub known : Filter → Lookup → ℕ → Insn → (next : Read) → Step
+known filter Unknown slot i next = stop (Refusal.UnknownOpcode (at slot))
+known filter Unimplemented slot i next = stop (Refusal.Unimplemented (at slot))
+known filter (Known k) slot i next = taken (filter .mode) k slot i (operandOf filter k slot i next)
 
 abbrev pub goodRegisters : Insn → Bool
 goodRegisters i = leb (i .dst) 10 && leb (i .src) 10
 
 -- in this order: its bytes (6), its registers (7), its opcode (8, 9) and what that brings (10, 11, 12, or 6 for the second half)
-abbrev pub stepRead : (ids addresses : List ℕ) → ℕ → Read → (next : Read) → Step
-stepRead ids addresses slot Torn next = stop (Refusal.Torn (at slot))
-stepRead ids addresses slot (Whole i) next =
-    pick (goodRegisters i) (known ids addresses (kindOf (i .opc)) slot i next) (stop (Refusal.BadRegister (at slot)))
+abbrev pub stepRead : Filter → ℕ → Read → (next : Read) → Step
+stepRead filter slot Torn next = stop (Refusal.Torn (at slot))
+stepRead filter slot (Whole i) next =
+    pick (goodRegisters i) (known filter (kindOf (i .opc)) slot i next) (stop (Refusal.BadRegister (at slot)))
 
 unfoldable pub stepAt : (filter : Filter) → ℕ → Step
-stepAt filter slot = stepRead (filter .ids) (filter .addresses) slot (readAt (filter .program) slot) (readAt (filter .program) (slot + 1))
+stepAt filter slot = stepRead filter slot (readAt (filter .program) slot) (readAt (filter .program) (slot + 1))
 
 -- All slots: a refusal, or the block of each.
 pub data Walk : Type 0 where

@@ -1,4 +1,4 @@
-// What the translator is asked and what it answers: the flags, and every reason to refuse. What it has to give is in specs/.
+// What the translator is asked and what it answers: the flags, the mode, and every reason to refuse. What it has to give is in specs/.
 use base::Slot;
 use ebpf::constants::PROG_MAX_INSNS;
 
@@ -34,6 +34,11 @@ pub struct Flags {
     pub update_data_ptr: bool,
 }
 
+// Which code the slots get: the Rust's, or, where `standard` is set, that of RFC 9669 where the Rust parts from it (specs/Slots.antt).
+pub struct Mode {
+    pub standard: bool,
+}
+
 // Why a program is not translated, and at which slot. The number of each is in specs/Refusals.antt.
 pub enum Refusal {
     // The code buffer is below SHORTEST_PAGE bytes, or above LONGEST_PAGE.
@@ -52,7 +57,7 @@ pub enum Refusal {
     UnknownOpcode(Slot),
     // ST_W_XADD, ST_DW_XADD, TAIL_CALL.
     Unimplemented(Slot),
-    // BE with an immediate other than 16, 32, 64.
+    // BE, and in standard mode LE, with an immediate other than 16, 32, 64.
     BadSwap(Slot),
     // A helper call whose id is not listed.
     UnknownHelper(Slot),

@@ -8,7 +8,8 @@ ghost use Rattle.x86_emit.specs.Lent.{Wrote, Fits, FitAll};
 ghost use Rattle.jit.specs.MulDivMod.{byZero, saved, restored, saves, restores, operate, operated, fromRax};
 ghost use Rattle.jit.specs.MulDivMod.{tested, guard, divByZero, mulDivModImm, mulDivModReg};
 ghost use Rattle.ebpf.specs.declared.kind.MulOp.the-variants.{Div, Mod};
-ghost use Rattle.jit.specs.Slots.{mulDivModCode};
+ghost use Rattle.jit.specs.Slots.{mulDivModCode, cleared, slotCode};
+ghost use Rattle.ebpf.specs.declared.kind.Kind.the-variants.{MulDivMod};
 ghost use Rattle.jit_recording.specs.Lent.{Emits, Room};
 use base::Position;
 use base::Slot;
@@ -16,8 +17,10 @@ use base::Width;
 use ebpf::insn::Insn;
 use ebpf::kind::MulOp;
 use ebpf::kind::Source;
+use jit::Mode;
 use jit_recording::emission;
 use jit_recording::emission::Emission;
+use jit_recording::mode;
 use jit_recording::register;
 use x86::GROUP3;
 use x86::GROUP3_DIV;
@@ -326,7 +329,8 @@ pub fn emit_muldivmod_reg(
     }
 }
 
-pub fn emit_muldivmod(
+// All that the Rust has for the slot.
+fn emit_operation(
     code: &mut [u8],
     fields: &mut [u32],
     targets: &mut [u32],
@@ -360,4 +364,61 @@ pub fn emit_muldivmod(
             dst,
         ),
     }
+}
+
+// Standard mode: a MOD32 that may leave dst as it is leaves its lower half.
+fn emit_cleared(
+    code: &mut [u8],
+    at: Position,
+    mode: Mode,
+    op: MulOp,
+    width: Width,
+    source: Source,
+    i: Insn,
+) -> Position
+    requires { ⌜ Fits code at × (i .dst < 11) ⌝ }
+    ensures { λ x. ⌜ Wrote code at x (blanks (cleared mode op width source i)) ⌝ }
+{
+    if mode::clears(mode, op, width, source, i.imm) {
+        let dst = register::map_register(i.dst);
+        return alu::emit_alu(code, at, Width::W32, MOV, dst, dst);
+    }
+    at
+}
+
+pub fn emit_muldivmod(
+    code: &mut [u8],
+    fields: &mut [u32],
+    targets: &mut [u32],
+    kinds: &mut [u32],
+    makers: &mut [u32],
+    e: Emission,
+    mode: Mode,
+    op: MulOp,
+    width: Width,
+    source: Source,
+    slot: Slot,
+    i: Insn,
+) -> Emission
+    requires { ⌜ Room code fields targets kinds makers e (slotCode mode (MulDivMod op width source) (slot .number) i 0) ⌝ }
+    requires { ⌜ (i .dst < 11) × ((i .src < 11) × (slot .number < 2 ^ 16)) ⌝ }
+    ensures { λ r. ⌜ Emits code fields targets kinds makers e r slot (slotCode mode (MulDivMod op width source) (slot .number) i 0) ⌝ }
+{
+    let ready = emit_cleared(code, e.at, mode, op, width, source, i);
+    emit_operation(
+        code,
+        fields,
+        targets,
+        kinds,
+        makers,
+        Emission {
+            at: ready,
+            jumps: e.jumps,
+        },
+        op,
+        width,
+        source,
+        slot,
+        i,
+    )
 }

@@ -7,6 +7,7 @@ ghost use Rattle.jit_judging.specs.Lent.{verdictOf};
 use base::Position;
 use base::Slot;
 use jit::Bad;
+use jit::Mode;
 use jit::Refusal;
 use jit_measuring::fits;
 use jit_measuring::fits::Fit;
@@ -18,15 +19,16 @@ use jit_walk::verdict::Verdict;
 fn judge_measured(
     kinds: &[u8; 256],
     prog: &[u8],
+    mode: Mode,
     ids: &[u32],
     addresses: &[u64],
     page: usize,
     start: Position,
 ) -> Verdict
     requires { ⌜ IsTable kinds × WithinLimits prog ids addresses page start ⌝ }
-    ensures { λ r. ⌜ r ≡ verdictOf (filterOf prog ids addresses) page start ⌝ }
+    ensures { λ r. ⌜ r ≡ verdictOf (filterOf prog mode ids addresses) page start ⌝ }
 {
-    match measure::measure(kinds, prog, ids, addresses, page, start) {
+    match measure::measure(kinds, prog, mode, ids, addresses, page, start) {
         Measured::Refused(refusal) => Verdict::Not(refusal),
         Measured::Done { end, bad } => {
             if page < end.offset + jit::EPILOGUE_SIZE {
@@ -46,17 +48,18 @@ fn judge_measured(
 pub fn judge(
     kinds: &[u8; 256],
     prog: &[u8],
+    mode: Mode,
     ids: &[u32],
     addresses: &[u64],
     page: usize,
     start: Position,
 ) -> Verdict
     requires { ⌜ IsTable kinds × WithinLimits prog ids addresses page start ⌝ }
-    ensures { λ r. ⌜ r ≡ verdictOf (filterOf prog ids addresses) page start ⌝ }
+    ensures { λ r. ⌜ r ≡ verdictOf (filterOf prog mode ids addresses) page start ⌝ }
 {
-    match fits::fits(kinds, prog, ids, addresses, page, start) {
+    match fits::fits(kinds, prog, mode, ids, addresses, page, start) {
         Fit::Sure => Verdict::Good,
         Fit::Not(refusal) => Verdict::Not(refusal),
-        Fit::Unsure => judge_measured(kinds, prog, ids, addresses, page, start),
+        Fit::Unsure => judge_measured(kinds, prog, mode, ids, addresses, page, start),
     }
 }

@@ -14,6 +14,7 @@ use Rattle.ebpf.specs.declared.kind.Kind.the-variants.{LdAbs, LdInd, LdDwImm, L
 use Rattle.ebpf.specs.declared.kind.Kind.the-variants.{Le, Be, Ja, Jump, Call, Exit}
 use Rattle.ebpf.specs.declared.kind.Lookup.{Lookup}
 use Rattle.ebpf.specs.declared.kind.Lookup.the-variants.{Known, Unimplemented, Unknown}
+use Rattle.jit.specs.declared.Mode.{Mode}
 use Rattle.jit_walk.specs.Numbered.{SlotRead}
 use Rattle.jit_walk.proofs.SlotReads.{kind-at}
 use Rattle.jit_lengths.specs.Lengths.{Ordinary, SizedBy}
@@ -38,16 +39,16 @@ armed =
     ∷ MULDIVMOD ⇒ true
     ∷ []
 
-pub no-length : {program : List ℕ} {slot opc number : ℕ} → SlotRead program slot opc number → Ordinary number → None armed number
-    → SizedBy (kindOf opc) (insnAt program slot) 0
-no-length {program} {slot} {opc} {number} r plain none =
+pub no-length : (m : Mode) {program : List ℕ} {slot opc number : ℕ} → SlotRead program slot opc number → Ordinary number → None armed number
+    → SizedBy m (kindOf opc) (insnAt program slot) 0
+no-length m {program} {slot} {opc} {number} r plain none =
     let o = insnAt program slot .opc in
     rw (r .opc-is) (by (kindOf o) (r .numbered .table ∙ number-at o (r .numbered .opc)))
   where
     not : {n : ℕ} {A : Type 0} → number ≡ n → cases armed false n ≡ true → A
     not q e = let z : _≡_ {A = ℕ} 0 1 = cc (rest armed false number none) in absurd (omega arith)
 
-    by : (l : Lookup) → number ≡ numberOf l → SizedBy l (insnAt program slot) 0
+    by : (l : Lookup) → number ≡ numberOf l → SizedBy m l (insnAt program slot) 0
     by Unknown q = tt
     by Unimplemented q = tt
     by (Known (LdAbs z)) q = not q refl
@@ -61,7 +62,7 @@ no-length {program} {slot} {opc} {number} r plain none =
     by (Known (Neg w)) q = not q refl
     by (Known (MulDivMod o w s)) q = not q refl
     by (Known (Mov w s)) q = not q refl
-    by (Known Le) q = λ slot value. refl
+    by (Known Le) q = absurd (plain .cuts q)
     by (Known Be) q = absurd (plain .swaps q)
     by (Known Ja) q = absurd (plain .ja q)
     by (Known (Jump c w s)) q = absurd (plain .jumps q)

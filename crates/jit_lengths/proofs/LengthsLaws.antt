@@ -23,7 +23,7 @@ use Rattle.ebpf.specs.declared.kind.ShiftOp.{ShiftOp}
 use Rattle.ebpf.specs.declared.kind.MulOp.{MulOp}
 use Rattle.ebpf.specs.declared.kind.MulOp.the-variants.{Mul, Div, Mod}
 use Rattle.ebpf.specs.declared.kind.Condition.{Condition}
-use Rattle.ebpf.specs.declared.kind.Kind.the-variants.{LdInd, Neg}
+use Rattle.ebpf.specs.declared.kind.Kind.the-variants.{LdInd, Neg, MulDivMod}
 use Rattle.x86.specs.Registers.{RAX, RCX, RDX, R10, R11}
 use Rattle.x86.specs.Instr as x86
 use Rattle.x86.specs.Instr.{alu, op, TEST, XOR}
@@ -31,7 +31,8 @@ use Rattle.x86.specs.Code.{size}
 use Rattle.x86.proofs.CodeLaws.{size-append}
 use Rattle.jit.specs.MulDivMod.{Code, saves, restores, fromRax, operate, operated, computed, byZero, guard}
 use Rattle.jit.specs.Slots.{regOf, targetOf, loadImm, aluOf, shiftOf, testOf, aluCode, shiftCode, movCode, mulDivModCode, jumpCode}
-use Rattle.jit.specs.Slots.{swap, helperCall, localCall, callCode, slotCode}
+use Rattle.jit.specs.Slots.{lowerHalf, cleared, copyWidth, truncated, swap, helperCall, localCall, callCode, slotCode}
+use Rattle.jit.specs.declared.Mode.{Mode}
 use Rattle.jit.proofs.Constants.{load-short, load-long}
 use Rattle.jit_lengths.specs.Lengths.{Rexed, kept, operands}
 
@@ -100,9 +101,9 @@ jump-size c w Imm slot i = omega arith
 jump-size c w Reg slot i = omega arith
 
 -- two 64-bit moves ahead of a load
-pub ind-size : (z : Size) (slot : ℕ) (i : Insn) (v : ℕ) {k : ℕ} → k ≡ length (encodePlain (load z R11 RAX (i .imm)))
-    → 6 + k ≡ size (slotCode (LdInd z) slot i v)
-ind-size z slot i v h =
+pub ind-size : (m : Mode) (z : Size) (slot : ℕ) (i : Insn) (v : ℕ) {k : ℕ} → k ≡ length (encodePlain (load z R11 RAX (i .imm)))
+    → 6 + k ≡ size (slotCode m (LdInd z) slot i v)
+ind-size m z slot i v h =
     let src = regOf (i .src) in
     let base = rexed 1 R10 R11 (0x89 ∷ modrm 3 R10 R11 ∷ []) (rex-wide R10 R11) refl in
     let index = rexed 1 src R11 (0x01 ∷ modrm 3 src R11 ∷ []) (rex-wide src R11) refl in
@@ -200,14 +201,19 @@ shift-imm o w i h = omega (arith, h (0xc1 ∷ modrm 3 (shiftExtension (shiftOf o
 pub shift-reg : (o : ShiftOp) (w : Width) (i : Insn) {k : ℕ} → Rexed w 0 (regOf (i .dst)) 2 k → 3 + k ≡ size (shiftCode o w Reg i)
 shift-reg o w i h = omega (arith, h (0xd3 ∷ modrm 3 (shiftExtension (shiftOf o)) (regOf (i .dst)) ∷ []) refl, moved (regOf (i .src)) RCX)
 
-pub mov-imm : (w : Width) (i : Insn) {k : ℕ} → Rexed w 0 (regOf (i .dst)) 6 k → k ≡ size (movCode w Imm i)
-mov-imm w i h = omega (arith, operands-imm MOV w i h)
+pub mov-imm : (m : Mode) (w : Width) (i : Insn) {k : ℕ} → Rexed w 0 (regOf (i .dst)) 6 k → k ≡ size (movCode m w Imm i)
+mov-imm m w i h = omega (arith, operands-imm MOV w i h)
 
-pub mov-reg : (w : Width) (i : Insn) → 3 ≡ size (movCode w Reg i)
-mov-reg w i = omega (arith, moved (regOf (i .src)) (regOf (i .dst)))
+pub mov-half : (m : Mode) (w : Width) (i : Insn) {k : ℕ} → copyWidth m w ≡ W32 → Rexed W32 (regOf (i .src)) (regOf (i .dst)) 2 k
+    → k ≡ size (movCode m w Reg i)
+mov-half m w i e h = rw e (omega (arith, operands-reg MOV W32 i h))
 
-pub neg-size : (w : Width) (slot : ℕ) (i : Insn) (v : ℕ) {k : ℕ} → Rexed w 0 (regOf (i .dst)) 2 k → k ≡ size (slotCode (Neg w) slot i v)
-neg-size w slot i v h = omega (arith, h (0xf7 ∷ modrm 3 3 (regOf (i .dst)) ∷ []) refl)
+pub mov-whole : (m : Mode) (w : Width) (i : Insn) → copyWidth m w ≡ W64 → 3 ≡ size (movCode m w Reg i)
+mov-whole m w i e = rw e (omega (arith, moved (regOf (i .src)) (regOf (i .dst))))
+
+pub neg-size : (m : Mode) (w : Width) (slot : ℕ) (i : Insn) (v : ℕ) {k : ℕ} → Rexed w 0 (regOf (i .dst)) 2 k
+    → k ≡ size (slotCode m (Neg w) slot i v)
+neg-size m w slot i v h = omega (arith, h (0xf7 ∷ modrm 3 3 (regOf (i .dst)) ∷ []) refl)
 
 pub swap-16 : (d bits : ℕ) {k m : ℕ} → bits ≡ 16 → Rexed W32 0 d 3 k → Rexed W32 0 d 6 m → 1 + k + m ≡ size (swap d bits)
 swap-16 d bits e h g = rw e (omega (arith, h (0xc1 ∷ modrm 3 0 d ∷ 8 ∷ []) refl, g (0x81 ∷ modrm 3 4 d ∷ le32 0xffff) refl))
@@ -217,6 +223,23 @@ swap-32 d bits e h = rw e (omega (arith, h (0x0f ∷ (0xc8 + d % 8) ∷ []) refl
 
 pub swap-64 : (d bits : ℕ) → ¬ (bits ≡ 16) → ¬ (bits ≡ 32) → 3 ≡ size (swap d bits)
 swap-64 d bits e f = rw (ne-eqb _ _ e, ne-eqb _ _ f) (omega (arith, rexed 1 0 d (0x0f ∷ (0xc8 + d % 8) ∷ []) (rex-wide 0 d) refl))
+
+-- standard mode
+pub lower-size : (d : ℕ) {k : ℕ} → Rexed W32 d d 2 k → k ≡ size (lowerHalf d)
+lower-size d h = omega (arith, h (0x89 ∷ modrm 3 d d ∷ []) refl)
+
+pub cut-16 : (d bits : ℕ) {k : ℕ} → bits ≡ 16 → Rexed W32 0 d 6 k → k ≡ size (truncated d bits)
+cut-16 d bits e h = rw e (omega (arith, h (0x81 ∷ modrm 3 4 d ∷ le32 0xffff) refl))
+
+pub cut-32 : (d bits : ℕ) {k : ℕ} → bits ≡ 32 → k ≡ size (lowerHalf d) → k ≡ size (truncated d bits)
+cut-32 d bits e h = rw e h
+
+pub cut-none : (d bits : ℕ) → ¬ (bits ≡ 16) → ¬ (bits ≡ 32) → 0 ≡ size (truncated d bits)
+cut-none d bits e f = rw (ne-eqb _ _ e, ne-eqb _ _ f)
+
+pub ahead-size : (m : Mode) (o : MulOp) (w : Width) (s : Source) (slot : ℕ) (i : Insn) (v : ℕ) {j k : ℕ} → j ≡ size (cleared m o w s i)
+    → k ≡ size (mulDivModCode o w s slot i) → j + k ≡ size (slotCode m (MulDivMod o w s) slot i v)
+ahead-size m o w s slot i v h g = omega (arith, h, g, size-append (cleared m o w s i) (mulDivModCode o w s slot i))
 
 pub call-helper : (slot : ℕ) (i : Insn) (v : ℕ) {k : ℕ} → i .src ≡ 0 → k ≡ length (encodePlain (loadImm RAX v)) → 5 + k ≡ size (callCode slot i v)
 call-helper slot i v e h = rw (eq-eqb _ _ e) (helper-size v h)

@@ -12,8 +12,8 @@ use Rattle.base.specs.declared.Size.the-variants.{S8, S16, S64}
 use Rattle.ebpf.specs.declared.insn.Insn.{Insn}
 use Rattle.ebpf.specs.declared.kind.Source.{Source}
 use Rattle.ebpf.specs.declared.kind.Source.the-variants.{Imm, Reg}
-use Rattle.ebpf.specs.declared.kind.MulOp.the-variants.{Div}
-use Rattle.ebpf.specs.declared.kind.Kind.the-variants.{Exit, Le, Mov, MulDivMod}
+use Rattle.ebpf.specs.declared.kind.MulOp.the-variants.{Div, Mod}
+use Rattle.ebpf.specs.declared.kind.Kind.the-variants.{Exit, Mov, MulDivMod}
 use Rattle.ebpf.specs.declared.kind.Lookup.{Lookup}
 use Rattle.ebpf.specs.declared.kind.Lookup.the-variants.{Known}
 use Rattle.x86.specs.Registers.{RAX, RSI, RDI, R8, R13}
@@ -21,7 +21,10 @@ use Rattle.x86.specs.Instr as x86
 use Rattle.x86.specs.Instr.{load, store, storeImm}
 use Rattle.x86.specs.Encode.{rex, memory, bare, short, encodePlain}
 use Rattle.x86.specs.Code.{size}
-use Rattle.jit.specs.Slots.{regOf, loadImm, swap, callCode}
+use Rattle.jit.specs.declared.Mode.{Mode}
+use Rattle.jit.specs.MulDivMod.{when}
+use Rattle.jit.specs.Modes.{rust, standard}
+use Rattle.jit.specs.Slots.{regOf, loadImm, truncated, swap, callCode}
 use Rattle.jit_lengths.specs.Lengths.{Rexed, operands, SizedBy}
 
 abbrev insn : (dst src off imm : ℕ) → Insn
@@ -58,8 +61,11 @@ SwapLength dst bits x = (x ≡ size (swap dst bits)) × (x ≤ 40)
 abbrev CallLength : Insn → (value x : ℕ) → Type 0
 CallLength i value x = ((slot : ℕ) → x ≡ size (callCode slot i value)) × (x ≤ 19)
 
-abbrev SlotLength : Lookup → Insn → (x : ℕ) → Type 0
-SlotLength l i x = SizedBy l i x × (x ≤ 90)
+abbrev SlotLength : Mode → Lookup → Insn → (x : ℕ) → Type 0
+SlotLength m l i x = SizedBy m l i x × (x ≤ 107)
+
+abbrev LeLength : Mode → (dst bits x : ℕ) → Type 0
+LeLength m dst bits x = (x ≡ size (when (m .standard) (truncated dst bits))) × (x ≤ 17)
 
 -- A REX left out though R8 needs one; one written though no bit of it is set.
 pub rex-lengths : (RexLength 0 0 R8 0 → ⊥) × (RexLength 0 RSI RDI 1 → ⊥)
@@ -111,11 +117,24 @@ pub call-lengths : (CallLength (insn 0 1 0 3) 0 15 → ⊥) × (CallLength (insn
 unfolding rex loadImm
 call-lengths = (λ h. omega (arith, h .0 0), λ h. omega (arith, h .0 0))
 
--- DIV by a register without the jump behind the cleared dst; EXIT as a jump; LE as an instruction; a copy of 32 bits.
+-- DIV by a register without the jump behind the cleared dst; EXIT as a jump; MOD32_IMM by 0 as an instruction; a copy of 32 bits.
 pub slot-lengths :
-    (SlotLength (Known (MulDivMod Div W64 Reg)) (insn 1 2 0 0) 36 → ⊥)
-    × ((SlotLength (Known Exit) (insn 0 0 0 0) 5 → ⊥)
-    × ((SlotLength (Known Le) (insn 1 0 0 16) 3 → ⊥)
-    × (SlotLength (Known (Mov W32 Reg)) (insn 1 2 0 0) 2 → ⊥)))
+    (SlotLength rust (Known (MulDivMod Div W64 Reg)) (insn 1 2 0 0) 36 → ⊥)
+    × ((SlotLength rust (Known Exit) (insn 0 0 0 0) 5 → ⊥)
+    × ((SlotLength rust (Known (MulDivMod Mod W32 Imm)) (insn 1 0 0 0) 2 → ⊥)
+    × (SlotLength rust (Known (Mov W32 Reg)) (insn 1 2 0 0) 2 → ⊥)))
 unfolding rex regOf
 slot-lengths = (λ h. omega (arith, h .0 0 0), (λ h. omega (arith, h .0 0 0), (λ h. omega (arith, h .0 0 0), λ h. omega (arith, h .0 0 0))))
+
+-- Standard mode: MOD32 by a register and by 0 without the cleared half, and MOV32_REG as a copy of 64 bits.
+pub standard-lengths :
+    (SlotLength standard (Known (MulDivMod Mod W32 Reg)) (insn 1 2 0 0) 32 → ⊥)
+    × ((SlotLength standard (Known (MulDivMod Mod W32 Imm)) (insn 1 0 0 0) 0 → ⊥)
+    × (SlotLength standard (Known (Mov W32 Reg)) (insn 1 2 0 0) 3 → ⊥))
+unfolding rex regOf
+standard-lengths = (λ h. omega (arith, h .0 0 0), (λ h. omega (arith, h .0 0 0), λ h. omega (arith, h .0 0 0)))
+
+-- LE as an instruction with the mode off; LE 16 without one in standard mode, and LE 64 with one.
+pub le-lengths : (LeLength rust RDI 16 6 → ⊥) × ((LeLength standard RDI 16 0 → ⊥) × (LeLength standard RDI 64 2 → ⊥))
+unfolding rex
+le-lengths = (λ h. omega (arith, h .0), (λ h. omega (arith, h .0), λ h. omega (arith, h .0)))

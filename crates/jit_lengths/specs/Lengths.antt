@@ -17,9 +17,10 @@ use Rattle.x86.specs.Registers.{RAX, RDX}
 use Rattle.x86.specs.Instr as x86
 use Rattle.x86.specs.Instr.{alu}
 use Rattle.x86.specs.Code.{size}
+use Rattle.jit.specs.declared.Mode.{Mode}
 use Rattle.jit.specs.MulDivMod.{saves, restored}
 use Rattle.jit.specs.Slots.{regOf, slotCode}
-use Rattle.ebpf.specs.Kinds.{LD-DW-IMM, BE, JA, JUMP, CALL}
+use Rattle.ebpf.specs.Kinds.{LD-DW-IMM, LE, BE, JA, JUMP, CALL}
 
 -- what `rexed_length` promises of k: a REX prefix and n bytes, whatever they are
 abbrev pub Rexed : Width → (r b n k : ℕ) → Type 0
@@ -35,20 +36,25 @@ abbrev pub kept : Bool → (dst : ℕ) → ℕ
 kept fromRax dst = size (saves dst) + size (restored dst RDX (not fromRax) ++ restored dst RAX fromRax)
 
 -- r is the length of the code of such a slot, wherever it stands
-abbrev pub Sized : Kind → Insn → (r : ℕ) → Type 0
-Sized k i r = (slot value : ℕ) → r ≡ size (slotCode k slot i value)
+abbrev pub Sized : Mode → Kind → Insn → (r : ℕ) → Type 0
+Sized m k i r = (slot value : ℕ) → r ≡ size (slotCode m k slot i value)
+
+-- .. in every mode
+abbrev pub AlwaysSized : Kind → Insn → (r : ℕ) → Type 0
+AlwaysSized k i r = (m : Mode) → Sized m k i r
 
 -- the same by the opcode's kind, for the opcodes that have one
-abbrev pub SizedBy : Lookup → Insn → (r : ℕ) → Type 0
-SizedBy Unknown i r = Unit {0}
-SizedBy Unimplemented i r = Unit {0}
-SizedBy (Known k) i r = Sized k i r
+abbrev pub SizedBy : Mode → Lookup → Insn → (r : ℕ) → Type 0
+SizedBy m Unknown i r = Unit {0}
+SizedBy m Unimplemented i r = Unit {0}
+SizedBy m (Known k) i r = Sized m k i r
 
 -- the table's entry of a slot that takes nothing from elsewhere, is translated whatever its fields hold, and lists no jump but one to the
 -- next slot
 pub record Ordinary (number : ℕ) : Type 0 where
   pub wide : ¬ (number ≡ LD-DW-IMM)
   pub swaps : ¬ (number ≡ BE)
+  pub cuts : ¬ (number ≡ LE)
   pub ja : ¬ (number ≡ JA)
   pub jumps : ¬ (number ≡ JUMP)
   pub calls : ¬ (number ≡ CALL)

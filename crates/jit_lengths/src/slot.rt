@@ -5,13 +5,13 @@ ghost use lib.ListN.{length};
 ghost use Rattle.x86.specs.Code.{size};
 ghost use Rattle.x86.specs.Encode.{encodePlain};
 ghost use Rattle.x86.specs.Instr as x86;
-ghost use Rattle.jit.specs.MulDivMod.{Code, byZero, guard, computed};
-ghost use Rattle.jit.specs.Slots.{shiftCode, movCode, mulDivModCode, swap, callCode};
+ghost use Rattle.jit.specs.MulDivMod.{Code, when, byZero, guard, computed};
+ghost use Rattle.jit.specs.Slots.{shiftCode, movCode, mulDivModCode, lowerHalf, cleared, truncated, swap, callCode, slotCode};
 ghost use Rattle.jit_walk.specs.Lent.{SlotRead, insnOf};
-ghost use Rattle.jit_lengths.specs.Lengths.{operands, kept, Ordinary, Sized, SizedBy};
+ghost use Rattle.jit_lengths.specs.Lengths.{operands, kept, Ordinary, AlwaysSized, SizedBy};
 ghost use Rattle.ebpf.specs.Opcode.{kindOf};
 ghost use Rattle.ebpf.specs.declared.kind.ShiftOp.{ShiftOp};
-ghost use Rattle.ebpf.specs.declared.kind.Kind.the-variants.{LdAbs, LdInd, LdReg, StImm, StReg, Neg};
+ghost use Rattle.ebpf.specs.declared.kind.Kind.the-variants.{LdAbs, LdInd, LdReg, StImm, StReg, Neg, MulDivMod};
 use crate::instruction;
 use base::Size;
 use base::Slot;
@@ -21,6 +21,8 @@ use ebpf::insn::Insn;
 use ebpf::kind;
 use ebpf::kind::MulOp;
 use ebpf::kind::Source;
+use jit::Mode;
+use jit_recording::mode;
 use jit_recording::register;
 use x86::R10;
 use x86::R11;
@@ -50,14 +52,52 @@ fn shift_length(width: Width, source: Source, i: Insn) -> usize
     }
 }
 
-fn mov_length(width: Width, source: Source, i: Insn) -> usize
-    requires { ⌜ i .dst < 11 ⌝ }
-    ensures { λ r. ⌜ (r ≡ size (movCode width source i)) × (r ≤ 17) ⌝ }
+fn mov_length(mode: Mode, width: Width, source: Source, i: Insn) -> usize
+    requires { ⌜ (i .dst < 11) × (i .src < 11) ⌝ }
+    ensures { λ r. ⌜ (r ≡ size (movCode mode width source i)) × (r ≤ 17) ⌝ }
 {
     match source {
         Source::Imm => instruction::rexed_length(width, 0, register::map_register(i.dst), 6),
-        Source::Reg => 3,
+        Source::Reg => match mode::copy_width(mode, width) {
+            Width::W32 => {
+                let src = register::map_register(i.src);
+                instruction::rexed_length(Width::W32, src, register::map_register(i.dst), 2)
+            }
+            Width::W64 => 3,
+        },
     }
+}
+
+// The lower half of a register, its upper half cleared.
+fn lower_length(dst: u8) -> usize
+    requires { ⌜ dst < 16 ⌝ }
+    ensures { λ r. ⌜ (r ≡ size (lowerHalf dst)) × (r ≤ 17) ⌝ }
+{
+    instruction::rexed_length(Width::W32, dst, dst, 2)
+}
+
+fn truncated_length(dst: u8, bits: u32) -> usize
+    requires { ⌜ dst < 16 ⌝ }
+    ensures { λ r. ⌜ (r ≡ size (truncated dst bits)) × (r ≤ 17) ⌝ }
+{
+    if bits == 16 {
+        return instruction::rexed_length(Width::W32, 0, dst, 6);
+    }
+    if bits == 32 {
+        return lower_length(dst);
+    }
+    0
+}
+
+// LE, which has code in standard mode alone.
+pub fn le_length(mode: Mode, dst: u8, bits: u32) -> usize
+    requires { ⌜ dst < 16 ⌝ }
+    ensures { λ r. ⌜ (r ≡ size (when (mode .standard) (truncated dst bits))) × (r ≤ 17) ⌝ }
+{
+    if mode.standard {
+        return truncated_length(dst, bits);
+    }
+    0
 }
 
 // BE
@@ -133,7 +173,8 @@ fn guard_length(op: MulOp, width: Width, src: u8, dst: u8) -> usize
     }
 }
 
-fn muldivmod_length(op: MulOp, width: Width, source: Source, i: Insn) -> usize
+// Multiplication, division and modulo, as the Rust has them.
+fn operation_length(op: MulOp, width: Width, source: Source, i: Insn) -> usize
     requires { ⌜ (i .dst < 11) × (i .src < 11) ⌝ }
     ensures { λ r. ⌜ ((slot : ℕ) → r ≡ size (mulDivModCode op width source slot i)) × (r ≤ 90) ⌝ }
 {
@@ -152,6 +193,24 @@ fn muldivmod_length(op: MulOp, width: Width, source: Source, i: Insn) -> usize
     }
 }
 
+// What standard mode puts ahead of them.
+fn cleared_length(mode: Mode, op: MulOp, width: Width, source: Source, i: Insn) -> usize
+    requires { ⌜ i .dst < 11 ⌝ }
+    ensures { λ r. ⌜ (r ≡ size (cleared mode op width source i)) × (r ≤ 17) ⌝ }
+{
+    if mode::clears(mode, op, width, source, i.imm) {
+        return lower_length(register::map_register(i.dst));
+    }
+    0
+}
+
+fn muldivmod_length(mode: Mode, op: MulOp, width: Width, source: Source, i: Insn) -> usize
+    requires { ⌜ (i .dst < 11) × (i .src < 11) ⌝ }
+    ensures { λ r. ⌜ ((slot value : ℕ) → r ≡ size (slotCode mode (MulDivMod op width source) slot i value)) × (r ≤ 107) ⌝ }
+{
+    cleared_length(mode, op, width, source, i) + operation_length(op, width, source, i)
+}
+
 // A helper's address is loaded; a call within the program saves four registers.
 pub fn call_length(i: Insn, value: u64) -> usize
     ensures { λ r. ⌜ ((slot : ℕ) → r ≡ size (callCode slot i value)) × (r ≤ 19) ⌝ }
@@ -164,20 +223,20 @@ pub fn call_length(i: Insn, value: u64) -> usize
 
 // Loads and stores, as the handlers of the same names write them.
 fn ld_abs_length(size: Size, i: Insn) -> usize
-    ensures { λ r. ⌜ Sized (LdAbs size) i r × (r ≤ 8) ⌝ }
+    ensures { λ r. ⌜ AlwaysSized (LdAbs size) i r × (r ≤ 8) ⌝ }
 {
     instruction::load_length(size, R10, RAX, i.imm)
 }
 
 fn ld_ind_length(size: Size, i: Insn) -> usize
-    ensures { λ r. ⌜ Sized (LdInd size) i r × (r ≤ 14) ⌝ }
+    ensures { λ r. ⌜ AlwaysSized (LdInd size) i r × (r ≤ 14) ⌝ }
 {
     6 + instruction::load_length(size, R11, RAX, i.imm)
 }
 
 fn ld_reg_length(size: Size, i: Insn) -> usize
     requires { ⌜ (i .dst < 11) × (i .src < 11) ⌝ }
-    ensures { λ r. ⌜ Sized (LdReg size) i r × (r ≤ 8) ⌝ }
+    ensures { λ r. ⌜ AlwaysSized (LdReg size) i r × (r ≤ 8) ⌝ }
 {
     let dst = register::map_register(i.dst);
     let src = register::map_register(i.src);
@@ -186,14 +245,14 @@ fn ld_reg_length(size: Size, i: Insn) -> usize
 
 fn st_imm_length(size: Size, i: Insn) -> usize
     requires { ⌜ i .dst < 11 ⌝ }
-    ensures { λ r. ⌜ Sized (StImm size) i r × (r ≤ 12) ⌝ }
+    ensures { λ r. ⌜ AlwaysSized (StImm size) i r × (r ≤ 12) ⌝ }
 {
     instruction::store_imm_length(size, register::map_register(i.dst), i.off)
 }
 
 fn st_reg_length(size: Size, i: Insn) -> usize
     requires { ⌜ (i .dst < 11) × (i .src < 11) ⌝ }
-    ensures { λ r. ⌜ Sized (StReg size) i r × (r ≤ 8) ⌝ }
+    ensures { λ r. ⌜ AlwaysSized (StReg size) i r × (r ≤ 8) ⌝ }
 {
     let dst = register::map_register(i.dst);
     let src = register::map_register(i.src);
@@ -202,19 +261,20 @@ fn st_reg_length(size: Size, i: Insn) -> usize
 
 fn neg_length(width: Width, i: Insn) -> usize
     requires { ⌜ i .dst < 11 ⌝ }
-    ensures { λ r. ⌜ Sized (Neg width) i r × (r ≤ 17) ⌝ }
+    ensures { λ r. ⌜ AlwaysSized (Neg width) i r × (r ≤ 17) ⌝ }
 {
     instruction::rexed_length(width, 0, register::map_register(i.dst), 2)
 }
 
 // A slot that is translated whatever its fields hold, and lists no jump but one to the next slot; `number` is its opcode's entry in the
-// table. LE has no code.
-pub fn slot_length(number: u8, opc: u8, prog: &[u8], slot: Slot) -> usize
+// table.
+pub fn slot_length(mode: Mode, number: u8, opc: u8, prog: &[u8], slot: Slot) -> usize
     requires { ⌜ SlotRead prog slot opc number × Ordinary number ⌝ }
-    ensures { λ r. ⌜ SizedBy (kindOf opc) (insnOf prog slot) r × (r ≤ 90) ⌝ }
+    ensures { λ r. ⌜ SizedBy mode (kindOf opc) (insnOf prog slot) r × (r ≤ 107) ⌝ }
 {
     match number {
         kind::KIND_MULDIVMOD => muldivmod_length(
+            mode,
             kind::mul_of(opc),
             kind::width_of(opc),
             kind::source_of(opc),
@@ -237,6 +297,7 @@ pub fn slot_length(number: u8, opc: u8, prog: &[u8], slot: Slot) -> usize
         ),
         kind::KIND_NEG => neg_length(kind::width_of(opc), insn::insn_at(prog, slot)),
         kind::KIND_MOV => mov_length(
+            mode,
             kind::width_of(opc),
             kind::source_of(opc),
             insn::insn_at(prog, slot),

@@ -9,7 +9,7 @@ use borrow.Author.Tests.{eq-eqb, ne-eqb, eqb-true, eqb-false, leb-true, ltb-true
 use Rattle.base.specs.Pick.{pick}
 use Rattle.ebpf.specs.Insn.{insnAt}
 use Rattle.ebpf.specs.Opcode.{kindOf, sourceOf}
-use Rattle.ebpf.specs.Kinds.{numberOf, widthOf, mulOf, conditionOf, UNKNOWN, UNIMPLEMENTED, LD-DW-IMM, MULDIVMOD, BE, JA, JUMP, CALL}
+use Rattle.ebpf.specs.Kinds.{numberOf, widthOf, mulOf, conditionOf, UNKNOWN, UNIMPLEMENTED, LD-DW-IMM, MULDIVMOD, LE, BE, JA, JUMP, CALL}
 use Rattle.ebpf.specs.declared.insn.Insn.{Insn}
 use Rattle.ebpf.specs.declared.insn.Read.the-variants.{Torn}
 use Rattle.ebpf.specs.declared.kind.Kind.{Kind}
@@ -23,14 +23,14 @@ use Rattle.x86.specs.Code.{targetsOf}
 use Rattle.jit.specs.Room.{shortSlot}
 use Rattle.jit.specs.Slots.{targetOf, slotCode}
 use Rattle.jit.proofs.SlotSize.{mostOf, slot-within}
-use Rattle.jit.specs.Translation.{Filter, at, blockOf, wideKind, helperOf, swapBits, has, lacks, badIn, stop, stepAt}
+use Rattle.jit.specs.Translation.{Filter, at, blockOf, wideKind, helperOf, swapBits, leBits, has, lacks, badIn, stop, stepAt}
 use Rattle.jit_walk.specs.Operands.{operandIn}
 use Rattle.jit_walk.proofs.Entries.{kind-some}
 use Rattle.jit_lengths.specs.Lengths.{Ordinary}
 use Rattle.jit_measuring.specs.declared.fits.Glance.{Glance}
 use Rattle.jit_measuring.specs.declared.fits.Glance.the-variants.{Stop, Narrow, Long, Wide, Lost}
 use Rattle.jit_measuring.specs.Fits.{isAddress, callSeen, Goes, Sees}
-use Rattle.jit_measuring.proofs.Listed.{jump-lists, swap-lists, helper-lists, local-lists, near-good, none-good, divide-good}
+use Rattle.jit_measuring.proofs.Listed.{jump-lists, le-lists, swap-lists, helper-lists, local-lists, near-good, none-good, divide-good}
 use Rattle.jit_measuring.proofs.Seen.{Seen, Entry, Kinded, kinded, read-there, read-torn, step-of}
 
 module _ (filter : Filter) {n slot : ℕ} (s : Seen (filter .program) n slot) where
@@ -42,13 +42,13 @@ module _ (filter : Filter) {n slot : ℕ} (s : Seen (filter .program) n slot) wh
 
   -- a slot of a known kind, whose operand is there and whose targets are good
   goes : (k : Kind) (value : ℕ) → kindOf (i .opc) ≡ Known k → operandIn filter k slot i ≡ has value
-      → badIn n slot (targetsOf (slotCode k slot i value)) ≡ Nowhere → Goes n slot (stepAt filter slot) (wideKind k) (mostOf k)
+      → badIn n slot (targetsOf (slotCode (filter .mode) k slot i value)) ≡ Nowhere → Goes n slot (stepAt filter slot) (wideKind k) (mostOf k)
   goes k value e o g =
       record {
-        block = blockOf k slot i value;
+        block = blockOf (filter .mode) k slot i value;
         step = sym (step-of filter s k e ∙ rw o);
         wide = refl;
-        short = slot-within k slot i value;
+        short = slot-within (filter .mode) k slot i value;
         good = g;
       }
 
@@ -61,7 +61,7 @@ module _ (filter : Filter) {n slot : ℕ} (s : Seen (filter .program) n slot) wh
       let o = mulOf (i .opc) in
       let w = widthOf (i .opc) in
       let x = sourceOf (i .opc) in
-      goes (MulDivMod o w x) 0 (kind-some (i .opc) MULDIVMOD (λ z. omega (arith, z)) e) refl (divide-good n slot o w x i (s .below))
+      goes (MulDivMod o w x) 0 (kind-some (i .opc) MULDIVMOD (λ z. omega (arith, z)) e) refl (divide-good (filter .mode) n slot o w x i (s .below))
 
   -- the kinds without an arm of their own
   pub saw-plain : (x : ℕ) → Entry filter s x → ¬ (x ≡ UNKNOWN) → ¬ (x ≡ UNIMPLEMENTED) → ¬ (x ≡ MULDIVMOD) → Ordinary x → Saw Narrow
@@ -104,14 +104,20 @@ module _ (filter : Filter) {n slot : ℕ} (s : Seen (filter .program) n slot) wh
 
   pub saw-swap : (t : Bool) → t ≡ swapBits (i .imm) → Entry filter s BE → Saw (pick t Narrow (Stop (Refusal.BadSwap (at slot))))
   saw-swap true q e =
-      goes Be 0 (kind-some (i .opc) BE (λ z. omega (arith, z)) e) (rw (← q)) (none-good n slot (slotCode Be slot i 0) (swap-lists i))
+      goes Be 0 (kind-some (i .opc) BE (λ z. omega (arith, z)) e) (rw (← q)) (none-good n slot (slotCode (filter .mode) Be slot i 0) (swap-lists i))
   saw-swap false q e = stops Be (Refusal.BadSwap (at slot)) (kind-some (i .opc) BE (λ z. omega (arith, z)) e) (rw (← q))
+
+  pub saw-le : (t : Bool) → t ≡ leBits (filter .mode) (i .imm) → Entry filter s LE → Saw (pick t Narrow (Stop (Refusal.BadSwap (at slot))))
+  saw-le true q e =
+      goes Le 0 (kind-some (i .opc) LE (λ z. omega (arith, z)) e) (rw (← q))
+      (none-good n slot (slotCode (filter .mode) Le slot i 0) (le-lists (filter .mode) i))
+  saw-le false q e = stops Le (Refusal.BadSwap (at slot)) (kind-some (i .opc) LE (λ z. omega (arith, z)) e) (rw (← q))
 
   pub saw-ja : (t : Bool) → t ≡ leb (targetOf slot (i .off)) n → Entry filter s JA → Saw (pick t Narrow Lost)
   saw-ja false q e = tt
   saw-ja true q e =
       goes Ja 0 (kind-some (i .opc) JA (λ z. omega (arith, z)) e) refl
-      (near-good n slot (targetOf slot (i .off)) (slotCode Ja slot i 0) refl (leb-true (targetOf slot (i .off)) n (sym q)))
+      (near-good n slot (targetOf slot (i .off)) (slotCode (filter .mode) Ja slot i 0) refl (leb-true (targetOf slot (i .off)) n (sym q)))
 
   pub saw-jump : (t : Bool) → t ≡ leb (targetOf slot (i .off)) n → Entry filter s JUMP → Saw (pick t Narrow Lost)
   saw-jump false q e = tt
@@ -120,7 +126,7 @@ module _ (filter : Filter) {n slot : ℕ} (s : Seen (filter .program) n slot) wh
       let w = widthOf (i .opc) in
       let x = sourceOf (i .opc) in
       goes (Jump o w x) 0 (kind-some (i .opc) JUMP (λ z. omega (arith, z)) e) refl
-      (near-good n slot (targetOf slot (i .off)) (slotCode (Jump o w x) slot i 0) (jump-lists o w x slot i) (leb-true (targetOf slot (i .off)) n (sym q)))
+      (near-good n slot (targetOf slot (i .off)) (slotCode (filter .mode) (Jump o w x) slot i 0) (jump-lists o w x slot i) (leb-true (targetOf slot (i .off)) n (sym q)))
 
   pub saw-call : Entry filter s CALL → Saw (callSeen (filter .ids) (filter .addresses) n slot (i .src) (i .imm))
   saw-call e = by (eqb (i .src) 0) refl
@@ -131,13 +137,13 @@ module _ (filter : Filter) {n slot : ℕ} (s : Seen (filter .program) n slot) wh
       helper : (h : Helper) → helperOf (filter .ids) (filter .addresses) (i .imm) ≡ h → i .src ≡ 0
           → Saw (pick (isAddress h) Long (Stop (Refusal.UnknownHelper (at slot))))
       helper (Address a) g z =
-          goes Call a is-call (rw (eq-eqb _ _ z, g)) (none-good n slot (slotCode Call slot i a) (helper-lists slot i a z))
+          goes Call a is-call (rw (eq-eqb _ _ z, g)) (none-good n slot (slotCode (filter .mode) Call slot i a) (helper-lists slot i a z))
       helper Missing g z = stops Call (Refusal.UnknownHelper (at slot)) is-call (rw (eq-eqb _ _ z, g))
 
       near : (t : Bool) → leb (targetOf slot (i .imm)) n ≡ t → ¬ (i .src ≡ 0) → eqb (i .src) 1 ≡ true → Saw (pick t Long Lost)
       near true q z f =
           goes Call 0 is-call (rw (ne-eqb _ _ z, f))
-          (near-good n slot (targetOf slot (i .imm)) (slotCode Call slot i 0) (local-lists slot i 0 z) (leb-true (targetOf slot (i .imm)) n q))
+          (near-good n slot (targetOf slot (i .imm)) (slotCode (filter .mode) Call slot i 0) (local-lists slot i 0 z) (leb-true (targetOf slot (i .imm)) n q))
       near false q z f = tt
 
       other : (x : Bool) → eqb (i .src) 1 ≡ x → ¬ (i .src ≡ 0)

@@ -15,21 +15,26 @@ use Rattle.ebpf.specs.declared.kind.Source.the-variants.{Imm, Reg}
 use Rattle.ebpf.specs.declared.kind.MulOp.{MulOp}
 use Rattle.ebpf.specs.declared.kind.MulOp.the-variants.{Mul, Div, Mod}
 use Rattle.ebpf.specs.declared.kind.Condition.{Condition}
+use Rattle.ebpf.specs.declared.kind.Kind.the-variants.{MulDivMod}
 use Rattle.x86.specs.Registers.{RCX}
 use Rattle.x86.specs.Instr.{op, alu, MOV}
 use Rattle.x86.specs.Code.{targetsOf}
 use Rattle.x86.proofs.CodeLaws.{targets-append}
 use Rattle.jit.specs.declared.Bad.the-variants.{Nowhere, At}
-use Rattle.jit.specs.MulDivMod.{Code, guard, computed}
-use Rattle.jit.specs.Slots.{regOf, targetOf, mulDivModCode, jumpCode, swap, callCode}
+use Rattle.jit.specs.declared.Mode.{Mode}
+use Rattle.jit.specs.MulDivMod.{Code, when, guard, computed}
+use Rattle.jit.specs.Slots.{regOf, targetOf, mulDivModCode, cleared, truncated, jumpCode, swap, callCode, slotCode}
 use Rattle.jit.specs.Translation.{at, badIn, goodTarget}
-use Rattle.jit.proofs.SlotSize.{computed-none, imm-jumps, swap-jumps}
+use Rattle.jit.proofs.SlotSize.{computed-none, imm-jumps, swap-jumps, cleared-jumps, truncated-jumps}
 use Rattle.jit_measuring.specs.declared.measure.Next.the-variants.{Following, Lost}
 use Rattle.jit_measuring.specs.Looks.{wideOf, badOf}
 
 pub jump-lists : (c : Condition) (w : Width) (s : Source) (slot : ℕ) (i : Insn) → targetsOf (jumpCode c w s slot i) ≡ targetOf slot (i .off) ∷ []
 jump-lists c w Imm slot i = refl
 jump-lists c w Reg slot i = refl
+
+pub le-lists : (m : Mode) (i : Insn) → targetsOf (when (m .standard) (truncated (regOf (i .dst)) (i .imm))) ≡ []
+le-lists m i = empty _ (truncated-jumps m (regOf (i .dst)) (i .imm))
 
 pub swap-lists : (i : Insn) → targetsOf (swap (regOf (i .dst)) (i .imm)) ≡ []
 swap-lists i = empty _ (swap-jumps (regOf (i .dst)) (i .imm))
@@ -59,12 +64,19 @@ pub none-good : (n slot : ℕ) (c : Code) → targetsOf c ≡ [] → badIn n slo
 none-good n slot c e = rw e
 
 -- multiplication and division list no jump, or one to the next slot
-pub divide-good : (n slot : ℕ) (o : MulOp) (w : Width) (s : Source) (i : Insn) → slot < n
+operation-good : (n slot : ℕ) (o : MulOp) (w : Width) (s : Source) (i : Insn) → slot < n
     → badIn n slot (targetsOf (mulDivModCode o w s slot i)) ≡ Nowhere
-divide-good n slot o w Imm i h = none-good n slot (mulDivModCode o w Imm slot i) (empty _ (imm-jumps o w (regOf (i .dst)) (i .imm)))
-divide-good n slot Mul w Reg i h = none-good n slot (mulDivModCode Mul w Reg slot i) (guarded Mul w slot i)
-divide-good n slot Div w Reg i h = near-good n slot (slot + 1) (mulDivModCode Div w Reg slot i) (guarded Div w slot i) (omega (arith, h))
-divide-good n slot Mod w Reg i h = near-good n slot (slot + 1) (mulDivModCode Mod w Reg slot i) (guarded Mod w slot i) (omega (arith, h))
+operation-good n slot o w Imm i h = none-good n slot (mulDivModCode o w Imm slot i) (empty _ (imm-jumps o w (regOf (i .dst)) (i .imm)))
+operation-good n slot Mul w Reg i h = none-good n slot (mulDivModCode Mul w Reg slot i) (guarded Mul w slot i)
+operation-good n slot Div w Reg i h = near-good n slot (slot + 1) (mulDivModCode Div w Reg slot i) (guarded Div w slot i) (omega (arith, h))
+operation-good n slot Mod w Reg i h = near-good n slot (slot + 1) (mulDivModCode Mod w Reg slot i) (guarded Mod w slot i) (omega (arith, h))
+
+-- .. and what standard mode puts ahead of them none
+pub divide-good : (m : Mode) (n slot : ℕ) (o : MulOp) (w : Width) (s : Source) (i : Insn) → slot < n
+    → badIn n slot (targetsOf (slotCode m (MulDivMod o w s) slot i 0)) ≡ Nowhere
+divide-good m n slot o w s i h =
+    let none = empty (targetsOf (cleared m o w s i)) (cleared-jumps m o w s i) in
+    rw (targets-append (cleared m o w s i) (mulDivModCode o w s slot i), none) (operation-good n slot o w s i h)
 
 -- a slot with one target is followed by the next one, well or not
 pub next-jump : (n slot t : ℕ)

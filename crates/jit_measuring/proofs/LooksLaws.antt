@@ -14,10 +14,11 @@ use Rattle.ebpf.specs.declared.kind.Lookup.the-variants.{Known}
 use Rattle.jit.specs.declared.Bad.the-variants.{Nowhere}
 use Rattle.jit.specs.declared.Refusal.{Refusal}
 use Rattle.x86.specs.Code.{size, targetsOf}
+use Rattle.jit.specs.declared.Mode.{Mode}
 use Rattle.jit.specs.Slots.{slotCode}
 use Rattle.jit.specs.Translation.{Filter, Block, wideKind, badIn, Step, stop, go, has, taken, stepAt}
 use Rattle.jit_walk.specs.Operands.{operandIn}
-use Rattle.ebpf.specs.Kinds.{UNKNOWN, UNIMPLEMENTED, LD-DW-IMM, BE, JA, JUMP, CALL}
+use Rattle.ebpf.specs.Kinds.{UNKNOWN, UNIMPLEMENTED, LD-DW-IMM, LE, BE, JA, JUMP, CALL}
 use Rattle.jit_walk.specs.declared.verdict.Verdict.the-variants.{Good, Not}
 use Rattle.jit_lengths.specs.Lengths.{Ordinary, SizedBy}
 use Rattle.jit_measuring.specs.declared.measure.Look.{Look}
@@ -26,13 +27,13 @@ use Rattle.jit_measuring.proofs.Listed.{next-jump}
 use Rattle.jit_measuring.proofs.Seen.{Seen, Entry, Kinded, kinded, step-of}
 
 -- a slot that lists nothing, and one that lists a target
-pub finds-none : (k : Kind) (n slot : ℕ) (i : Insn) (value : ℕ) {bytes : ℕ} → bytes ≡ size (slotCode k slot i value) → wideKind k ≡ false
-    → badIn n slot (targetsOf (slotCode k slot i value)) ≡ Nowhere → Finds n slot (taken k slot i (has value)) (plainly bytes)
-finds-none k n slot i value h w g = (refl, (h, (w, g)))
+pub finds-none : (m : Mode) (k : Kind) (n slot : ℕ) (i : Insn) (value : ℕ) {bytes : ℕ} → bytes ≡ size (slotCode m k slot i value) → wideKind k ≡ false
+    → badIn n slot (targetsOf (slotCode m k slot i value)) ≡ Nowhere → Finds n slot (taken m k slot i (has value)) (plainly bytes)
+finds-none m k n slot i value h w g = (refl, (h, (w, g)))
 
-pub finds-jump : (k : Kind) (n slot : ℕ) (i : Insn) (value t : ℕ) {bytes : ℕ} → bytes ≡ size (slotCode k slot i value) → wideKind k ≡ false
-    → targetsOf (slotCode k slot i value) ≡ t ∷ [] → Finds n slot (taken k slot i (has value)) (jumping bytes n t)
-finds-jump k n slot i value t h w g = (refl, (h, (w ∙ next-jump n slot t .0, rw g (next-jump n slot t .1))))
+pub finds-jump : (m : Mode) (k : Kind) (n slot : ℕ) (i : Insn) (value t : ℕ) {bytes : ℕ} → bytes ≡ size (slotCode m k slot i value) → wideKind k ≡ false
+    → targetsOf (slotCode m k slot i value) ≡ t ∷ [] → Finds n slot (taken m k slot i (has value)) (jumping bytes n t)
+finds-jump m k n slot i value t h w g = (refl, (h, (w ∙ next-jump n slot t .0, rw g (next-jump n slot t .1))))
 
 -- a slot whose step is a refusal, and one of a known kind
 pub finds-stopped : (n slot : ℕ) {s : Step} {r : Refusal} → s ≡ stop r → Finds n slot s (stopped r)
@@ -40,14 +41,14 @@ finds-stopped n slot e = rw e refl
 
 pub finds-of : (filter : Filter) {n slot : ℕ} (s : Seen (filter .program) n slot) (k : Kind) (x : Look)
     → kindOf (insnAt (filter .program) slot .opc) ≡ Known k
-    → Finds n slot (taken k slot (insnAt (filter .program) slot) (operandIn filter k slot (insnAt (filter .program) slot))) x
+    → Finds n slot (taken (filter .mode) k slot (insnAt (filter .program) slot) (operandIn filter k slot (insnAt (filter .program) slot))) x
     → Finds n slot (stepAt filter slot) x
 finds-of filter s k x e f = rw (step-of filter s k e) f
 
 -- the kinds without an arm of their own
 pub finds-plain : (filter : Filter) {n slot : ℕ} (s : Seen (filter .program) n slot) (x bytes : ℕ) → Entry filter s x
     → ¬ (x ≡ UNKNOWN) → ¬ (x ≡ UNIMPLEMENTED) → Ordinary x
-    → SizedBy (kindOf (insnAt (filter .program) slot .opc)) (insnAt (filter .program) slot) bytes
+    → SizedBy (filter .mode) (kindOf (insnAt (filter .program) slot .opc)) (insnAt (filter .program) slot) bytes
     → Finds n slot (stepAt filter slot) (plainly bytes)
 finds-plain filter {n} {slot} s x bytes e u v p h = by (kinded filter s x e u v p)
   where
@@ -56,15 +57,23 @@ finds-plain filter {n} {slot} s x bytes e u v p h = by (kinded filter s x e u v 
         let i = insnAt (filter .program) slot in
         let sized = rw (k .is) at h in
         rw (step-of filter s (k .kind) (k .is), k .plainly .takes)
-        (finds-none (k .kind) n slot i 0 (sized slot 0) (k .plainly .narrow) (k .plainly .good))
+        (finds-none (filter .mode) (k .kind) n slot i 0 (sized slot 0) (k .plainly .narrow) (k .plainly .good))
 
 -- the kinds with an arm of their own in `measure_slot`, in the reverse of their order there
 abbrev pub measured-apart : List (Arm Bool)
 measured-apart =
-    CALL ⇒ true ∷ JUMP ⇒ true ∷ JA ⇒ true ∷ BE ⇒ true ∷ LD-DW-IMM ⇒ true ∷ UNIMPLEMENTED ⇒ true ∷ UNKNOWN ⇒ true ∷ []
+    LE ⇒ true ∷ CALL ⇒ true ∷ JUMP ⇒ true ∷ JA ⇒ true ∷ BE ⇒ true ∷ LD-DW-IMM ⇒ true ∷ UNIMPLEMENTED ⇒ true ∷ UNKNOWN ⇒ true ∷ []
 
 pub measured-plain : {x : ℕ} → None measured-apart x → Ordinary x
-measured-plain none = record { wide = none .0 .0 .0 .0 .1; swaps = none .0 .0 .0 .1; ja = none .0 .0 .1; jumps = none .0 .1; calls = none .1 }
+measured-plain none =
+    record {
+      wide = none .0 .0 .0 .0 .0 .1;
+      swaps = none .0 .0 .0 .0 .1;
+      cuts = none .1;
+      ja = none .0 .0 .0 .1;
+      jumps = none .0 .0 .1;
+      calls = none .0 .1;
+    }
 
 -- what a look says of the step
 pub finds-stop : (n slot : ℕ) (s : Step) (x : Look) {r : Refusal} → Finds n slot s x → x .verdict ≡ Not r → stop r ≡ s

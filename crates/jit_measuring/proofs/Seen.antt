@@ -98,11 +98,11 @@ module _ (filter : Filter) {n slot : ℕ} (s : Seen (filter .program) n slot) wh
   abbrev pub Entry : ℕ → Type 0
   Entry x = x ≡ getD numbers (i .opc) 0
 
-  step-known : stepAt filter slot ≡ known (filter .ids) (filter .addresses) (kindOf (i .opc)) slot i (readAt (filter .program) (slot + 1))
+  step-known : stepAt filter slot ≡ known filter (kindOf (i .opc)) slot i (readAt (filter .program) (slot + 1))
   unfolding stepAt
   step-known = rw (read-there (filter .program) slot (s .there), le-leb _ _ (s .dst), le-leb _ _ (s .src))
 
-  pub step-of : (k : Kind) → kindOf (i .opc) ≡ Known k → stepAt filter slot ≡ taken k slot i (operandIn filter k slot i)
+  pub step-of : (k : Kind) → kindOf (i .opc) ≡ Known k → stepAt filter slot ≡ taken (filter .mode) k slot i (operandIn filter k slot i)
   step-of k e = step-known ∙ rw e
 
   pub step-unknown : kindOf (i .opc) ≡ Unknown → stepAt filter slot ≡ stop (Refusal.UnknownOpcode (at slot))
@@ -115,7 +115,7 @@ module _ (filter : Filter) {n slot : ℕ} (s : Seen (filter .program) n slot) wh
   pub record Plainly (k : Kind) : Type 0 where
     pub takes : operandIn filter k slot i ≡ has 0
     pub narrow : wideKind k ≡ false
-    pub good : badIn n slot (targetsOf (slotCode k slot i 0)) ≡ Nowhere
+    pub good : badIn n slot (targetsOf (slotCode (filter .mode) k slot i 0)) ≡ Nowhere
 
   ordinary : (k : Kind) → Ordinary (numberOf (Known k)) → Plainly k
   ordinary (LdAbs z) p = record { takes = refl; narrow = refl; good = refl }
@@ -124,12 +124,12 @@ module _ (filter : Filter) {n slot : ℕ} (s : Seen (filter .program) n slot) wh
   ordinary (LdReg z) p = record { takes = refl; narrow = refl; good = refl }
   ordinary (StImm z) p = record { takes = refl; narrow = refl; good = refl }
   ordinary (StReg z) p = record { takes = refl; narrow = refl; good = refl }
-  ordinary (Alu o w x) p = record { takes = refl; narrow = refl; good = none-good n slot (slotCode (Alu o w x) slot i 0) (alu-none o w x i) }
-  ordinary (Shift o w x) p = record { takes = refl; narrow = refl; good = none-good n slot (slotCode (Shift o w x) slot i 0) (shift-none o w x i) }
+  ordinary (Alu o w x) p = record { takes = refl; narrow = refl; good = none-good n slot (slotCode (filter .mode) (Alu o w x) slot i 0) (alu-none o w x i) }
+  ordinary (Shift o w x) p = record { takes = refl; narrow = refl; good = none-good n slot (slotCode (filter .mode) (Shift o w x) slot i 0) (shift-none o w x i) }
   ordinary (Neg w) p = record { takes = refl; narrow = refl; good = refl }
-  ordinary (MulDivMod o w x) p = record { takes = refl; narrow = refl; good = divide-good n slot o w x i (s .below) }
-  ordinary (Mov w x) p = record { takes = refl; narrow = refl; good = none-good n slot (slotCode (Mov w x) slot i 0) (mov-none w x i) }
-  ordinary Le p = record { takes = refl; narrow = refl; good = refl }
+  ordinary (MulDivMod o w x) p = record { takes = refl; narrow = refl; good = divide-good (filter .mode) n slot o w x i (s .below) }
+  ordinary (Mov w x) p = record { takes = refl; narrow = refl; good = none-good n slot (slotCode (filter .mode) (Mov w x) slot i 0) (mov-none (filter .mode) w x i) }
+  ordinary Le p = absurd (p .cuts refl)
   ordinary Be p = absurd (p .swaps refl)
   ordinary Ja p = absurd (p .ja refl)
   ordinary (Jump o w x) p = absurd (p .jumps refl)

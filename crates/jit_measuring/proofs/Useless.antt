@@ -8,12 +8,29 @@ use Rattle.jit.specs.declared.Bad.the-variants.{Nowhere, At}
 use Rattle.jit.specs.declared.Refusal.{Refusal}
 use Rattle.x86.specs.Code.{size}
 use Rattle.jit.specs.Room.{epilogueSize}
-use Rattle.jit.specs.Translation.{Block, Walk, refused, done, flat, firstBad}
+use Rattle.jit.specs.Modes.{rust, standard}
+use Rattle.jit.specs.Translation.{at, Block, leBits, swapValue, taken, Walk, refused, done, flat, firstBad}
+use Rattle.ebpf.specs.declared.insn.Insn.{Insn}
+use Rattle.ebpf.specs.declared.kind.Kind.the-variants.{Le}
+use Rattle.jit_walk.specs.declared.verdict.Verdict.the-variants as verdict
+use Rattle.jit_walk.specs.declared.verdict.Verdict.the-variants.{Good}
+use Rattle.jit_measuring.specs.Looks.{plainly, stopped, Finds}
 use Rattle.jit_walk.specs.Acceptable.{Acceptable}
 use Rattle.jit_measuring.specs.declared.fits.Fit.the-variants.{Sure, Not}
 use Rattle.jit_measuring.specs.declared.measure.Measured.{Measured}
 use Rattle.jit_measuring.specs.Fits.{Settles}
 use Rattle.jit_measuring.specs.Measures.{Answers}
+
+-- A look at LE of 8 bits: it is taken in standard mode; it is refused with the mode off.
+module _ (n slot : ℕ) (i : Insn) (eight : i .imm ≡ 8) where
+  pub le-8-taken : (bytes : ℕ) → Finds n slot (taken standard Le slot i (swapValue (leBits standard (i .imm)) slot)) (plainly bytes) → ⊥
+  le-8-taken bytes h =
+      let e : Good ≡ verdict.Not (Refusal.BadSwap (at slot)) = rw eight at h in
+      let z : _≡_ {A = ℕ} 0 1 = cc in
+      absurd (omega arith)
+
+  pub le-8-refused : (r : Refusal) → Finds n slot (taken rust Le slot i (swapValue (leBits rust (i .imm)) slot)) (stopped r) → ⊥
+  le-8-refused r h = let e : verdict.Not r ≡ Good = h .0 in let z : _≡_ {A = ℕ} 0 1 = cc in absurd (omega arith)
 
 abbrev blocksIn : Walk → List Block → List Block
 blocksIn (refused r) bs = bs

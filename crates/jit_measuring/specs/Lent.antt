@@ -7,6 +7,7 @@ use Rattle.base.specs.declared.Position.{Position}
 use Rattle.base.specs.declared.Slot.{Slot}
 use Rattle.ebpf.specs.declared.insn.Insn.{Insn}
 use Rattle.ebpf.specs.declared.kind.Kind.{Kind}
+use Rattle.jit.specs.declared.Mode.{Mode}
 use Rattle.jit.specs.Passes.{walked}
 use Rattle.jit.specs.Translation.{Filter, Operand, slotsOf, taken, stepAt}
 use Rattle.jit_measuring.specs.declared.fits.Fit.{Fit}
@@ -32,11 +33,15 @@ abbrev pub Settles : Filter → (page : ℕ) → (start : Position) → Fit → 
 Settles filter page start r = F.Settles (slotsOf (filter .program)) page (start .offset) (walked filter page start) r
 
 -- the measuring pass: a slot of a kind with what it takes from elsewhere, any slot of the filter, and all of them
-abbrev pub Takes : (n : ℕ) → Kind → Slot → Insn → Operand → Look → Type 0
-Takes n k slot i o r = L.Finds n (slot .number) (taken k (slot .number) i o) r × (r .size ≤ 90)
+abbrev pub Takes : Mode → (n : ℕ) → Kind → Slot → Insn → Operand → Look → Type 0
+Takes m n k slot i o r = L.Finds n (slot .number) (taken m k (slot .number) i o) r × (r .size ≤ 107)
+
+-- .. in every mode
+abbrev pub AlwaysTakes : (n : ℕ) → Kind → Slot → Insn → Operand → Look → Type 0
+AlwaysTakes n k slot i o r = (m : Mode) → Takes m n k slot i o r
 
 abbrev pub Looks : Filter → (n : ℕ) → Slot → Look → Type 0
-Looks filter n slot r = L.Finds n (slot .number) (stepAt filter (slot .number)) r × (r .size ≤ 90)
+Looks filter n slot r = L.Finds n (slot .number) (stepAt filter (slot .number)) r × (r .size ≤ 107)
 
 abbrev pub Answers : Filter → (page : ℕ) → (start : Position) → Measured → Type 0
 Answers filter page start r = M.Answers (slotsOf (filter .program)) page (start .offset) (walked filter page start) r

@@ -19,6 +19,7 @@ use ebpf::insn::read_i32;
 use ebpf::insn::tail_of;
 use ebpf::kind;
 use jit::Helper;
+use jit::Mode;
 use jit::Refusal;
 use jit_recording::emission;
 use jit_walk::operand;
@@ -88,6 +89,7 @@ fn look_at_call(ids: &[u32], addresses: &[u64], n: usize, slot: Slot, src: u8, i
 fn look_at(
     kinds: &[u8; 256],
     prog: &[u8],
+    mode: Mode,
     ids: &[u32],
     addresses: &[u64],
     n: usize,
@@ -95,7 +97,7 @@ fn look_at(
 ) -> Glance
     requires { ⌜ IsTable kinds × Paired ids addresses ⌝ }
     requires { ⌜ Inside prog n slot ⌝ }
-    ensures { λ r. ⌜ Sees (filterOf prog ids addresses) n slot r ⌝ }
+    ensures { λ r. ⌜ Sees (filterOf prog mode ids addresses) n slot r ⌝ }
 {
     let at = 8 * slot.number;
     let registers = prog[at + 1];
@@ -120,6 +122,10 @@ fn look_at(
             let imm = read_i32(prog, at + 4);
             look_at_call(ids, addresses, n, slot, registers / 16, imm)
         }
+        kind::KIND_LE => {
+            let known = operand::le_bits(mode, read_i32(prog, at + 4));
+            found_if(known, Glance::Narrow, Refusal::BadSwap(slot))
+        }
         _ => Glance::Narrow,
     }
 }
@@ -131,13 +137,14 @@ const MORE: usize = jit::LONG_SLOT - jit::SHORT_SLOT;
 pub fn fits(
     kinds: &[u8; 256],
     prog: &[u8],
+    mode: Mode,
     ids: &[u32],
     addresses: &[u64],
     page: usize,
     start: Position,
 ) -> Fit
     requires { ⌜ IsTable kinds × WithinLimits prog ids addresses page start ⌝ }
-    ensures { λ r. ⌜ Settles (filterOf prog ids addresses) page start r ⌝ }
+    ensures { λ r. ⌜ Settles (filterOf prog mode ids addresses) page start r ⌝ }
 {
     let n = prog.len() / 8;
     let from = start.offset;
@@ -148,7 +155,7 @@ pub fn fits(
     let mut spare = page - kept;
     let mut slot = Slot { number: 0 };
     while slot.number < n {
-        match look_at(kinds, prog, ids, addresses, n, slot) {
+        match look_at(kinds, prog, mode, ids, addresses, n, slot) {
             Glance::Stop(refusal) => {
                 return Fit::Not(refusal);
             }

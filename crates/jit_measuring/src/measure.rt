@@ -3,15 +3,14 @@ ghost use mathlib.Core.Path.{_≡_};
 ghost use Prim.Native.Nat.{ℕ, _<_, _^_};
 ghost use Rattle.ebpf.specs.Kinds.{widthOf, conditionOf};
 ghost use Rattle.ebpf.specs.Opcode.{sourceOf};
-ghost use Rattle.ebpf.specs.declared.kind.Kind.the-variants.{LdDwImm, Be, Jump, Call};
+ghost use Rattle.ebpf.specs.declared.kind.Kind.the-variants.{LdDwImm, Le, Be, Jump, Call};
 ghost use Rattle.jit.specs.declared.Bad.the-variants.{At};
 ghost use Rattle.jit.specs.Lent.{filterOf};
 ghost use Rattle.jit.specs.Passes.{Paired, WithinLimits};
-ghost use Rattle.jit.specs.Translation.{orElse, wideValue, has};
-ghost use Rattle.jit_walk.specs.Operands.{swapValue};
+ghost use Rattle.jit.specs.Translation.{orElse, wideValue, swapBits, leBits, swapValue, has};
 ghost use Rattle.jit_walk.specs.Lent.{IsTable, callValue, readBehind};
 ghost use Rattle.jit_measuring.specs.Looks.{stopped, plainly, jumping};
-ghost use Rattle.jit_measuring.specs.Lent.{Inside, Takes, Looks, Answers};
+ghost use Rattle.jit_measuring.specs.Lent.{Inside, Takes, AlwaysTakes, Looks, Answers};
 use base::Position;
 use base::Slot;
 use ebpf::insn;
@@ -19,6 +18,7 @@ use ebpf::insn::Insn;
 use ebpf::insn::Tail;
 use ebpf::kind;
 use jit::Bad;
+use jit::Mode;
 use jit::Refusal;
 use jit_lengths::instruction;
 use jit_lengths::slot as lengths;
@@ -93,7 +93,7 @@ fn jumps(size: usize, n: usize, target: u32) -> Look
 
 fn measure_wide(prog: &[u8], slot: Slot, i: Insn) -> Look
     requires { ⌜ slot .number < 2 ^ 40 ⌝ }
-    ensures { λ r. ⌜ ((n : ℕ) → Takes n LdDwImm slot i (wideValue (slot .number) i (readBehind prog slot)) r) ⌝ }
+    ensures { λ r. ⌜ ((n : ℕ) → AlwaysTakes n LdDwImm slot i (wideValue (slot .number) i (readBehind prog slot)) r) ⌝ }
 {
     match operand::wide_operand(prog, slot, i) {
         Operand::Lacks(refusal) => stops(refusal),
@@ -107,7 +107,7 @@ fn measure_wide(prog: &[u8], slot: Slot, i: Insn) -> Look
 
 fn measure_swap(slot: Slot, i: Insn) -> Look
     requires { ⌜ i .dst < 11 ⌝ }
-    ensures { λ r. ⌜ ((n : ℕ) → Takes n Be slot i (swapValue (slot .number) i) r) ⌝ }
+    ensures { λ r. ⌜ ((n : ℕ) → AlwaysTakes n Be slot i (swapValue (swapBits (i .imm)) (slot .number)) r) ⌝ }
 {
     if operand::swap_bits(i.imm) {
         return plain(lengths::swap_length(register::map_register(i.dst), i.imm));
@@ -115,9 +115,19 @@ fn measure_swap(slot: Slot, i: Insn) -> Look
     stops(Refusal::BadSwap(slot))
 }
 
+fn measure_le(mode: Mode, slot: Slot, i: Insn) -> Look
+    requires { ⌜ i .dst < 11 ⌝ }
+    ensures { λ r. ⌜ ((n : ℕ) → Takes mode n Le slot i (swapValue (leBits mode (i .imm)) (slot .number)) r) ⌝ }
+{
+    if operand::le_bits(mode, i.imm) {
+        return plain(lengths::le_length(mode, register::map_register(i.dst), i.imm));
+    }
+    stops(Refusal::BadSwap(slot))
+}
+
 fn measure_jump(n: usize, slot: Slot, i: Insn) -> Look
     requires { ⌜ (i .dst < 11) × ((i .src < 11) × (slot .number < 2 ^ 16)) ⌝ }
-    ensures { λ r. ⌜ Takes n (Jump (conditionOf (i .opc)) (widthOf (i .opc)) (sourceOf (i .opc))) slot i (has 0) r ⌝ }
+    ensures { λ r. ⌜ AlwaysTakes n (Jump (conditionOf (i .opc)) (widthOf (i .opc)) (sourceOf (i .opc))) slot i (has 0) r ⌝ }
 {
     let size = lengths::operands_length(kind::width_of(i.opc), kind::source_of(i.opc), i);
     jumps(JCC_SIZE + size, n, emission::target_of(slot, i.off))
@@ -125,7 +135,7 @@ fn measure_jump(n: usize, slot: Slot, i: Insn) -> Look
 
 fn measure_call(ids: &[u32], addresses: &[u64], n: usize, slot: Slot, i: Insn) -> Look
     requires { ⌜ Paired ids addresses × (slot .number < 2 ^ 16) ⌝ }
-    ensures { λ r. ⌜ Takes n Call slot i (callValue ids addresses slot i) r ⌝ }
+    ensures { λ r. ⌜ AlwaysTakes n Call slot i (callValue ids addresses slot i) r ⌝ }
 {
     match operand::call_operand(ids, addresses, slot, i) {
         Operand::Lacks(refusal) => stops(refusal),
@@ -143,6 +153,7 @@ fn measure_call(ids: &[u32], addresses: &[u64], n: usize, slot: Slot, i: Insn) -
 fn measure_slot(
     kinds: &[u8; 256],
     prog: &[u8],
+    mode: Mode,
     ids: &[u32],
     addresses: &[u64],
     n: usize,
@@ -150,7 +161,7 @@ fn measure_slot(
 ) -> Look
     requires { ⌜ IsTable kinds × Paired ids addresses ⌝ }
     requires { ⌜ Inside prog n slot ⌝ }
-    ensures { λ r. ⌜ Looks (filterOf prog ids addresses) n slot r ⌝ }
+    ensures { λ r. ⌜ Looks (filterOf prog mode ids addresses) n slot r ⌝ }
 {
     let at = 8 * slot.number;
     let registers = prog[at + 1];
@@ -173,7 +184,8 @@ fn measure_slot(
         }
         kind::KIND_JUMP => measure_jump(n, slot, insn::insn_at(prog, slot)),
         kind::KIND_CALL => measure_call(ids, addresses, n, slot, insn::insn_at(prog, slot)),
-        _ => plain(lengths::slot_length(number, opc, prog, slot)),
+        kind::KIND_LE => measure_le(mode, slot, insn::insn_at(prog, slot)),
+        _ => plain(lengths::slot_length(mode, number, opc, prog, slot)),
     }
 }
 
@@ -191,20 +203,21 @@ fn note_bad(bad: Bad, slot: Slot) -> Bad
 pub fn measure(
     kinds: &[u8; 256],
     prog: &[u8],
+    mode: Mode,
     ids: &[u32],
     addresses: &[u64],
     page: usize,
     start: Position,
 ) -> Measured
     requires { ⌜ IsTable kinds × WithinLimits prog ids addresses page start ⌝ }
-    ensures { λ r. ⌜ Answers (filterOf prog ids addresses) page start r ⌝ }
+    ensures { λ r. ⌜ Answers (filterOf prog mode ids addresses) page start r ⌝ }
 {
     let n = prog.len() / 8;
     let mut slot = Slot { number: 0 };
     let mut at = start;
     let mut bad = Bad::Nowhere;
     while slot.number < n {
-        let seen = measure_slot(kinds, prog, ids, addresses, n, slot);
+        let seen = measure_slot(kinds, prog, mode, ids, addresses, n, slot);
         let verdict = seen.verdict;
         if let Verdict::Not(refusal) = verdict {
             return Measured::Refused(refusal);

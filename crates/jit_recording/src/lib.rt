@@ -1,3 +1,4 @@
-// What every handler goes through: the running position with the jumps that are recorded, and the register map.
+// What every handler goes through: the running position with the jumps that are recorded, the register map, and what the mode changes.
 pub mod emission;
+pub mod mode;
 pub mod register;

@@ -110,10 +110,10 @@ record InBlock (program : List ℕ) (n : ℕ) (bs : List Block) (pre : Code) (j 
 skip-divides : (program : List ℕ) (n : ℕ) (b : Block) → OriginIn program n b → (pre : Code) (j : Jump) (k : ℕ) (post : Code)
     → b .code ≡ pre ++ jump j (near k) ∷ post
     → (w : Width) × (kindOf (insnAt program n .opc) ≡ Known (MulDivMod Div w Reg))
-skip-divides program n b o pre j k post e = by (slot-skipping (o .origin .kind) n (o .origin .insn) (o .origin .value))
+skip-divides program n b o pre j k post e = by (slot-skipping (o .origin .mode) (o .origin .kind) n (o .origin .insn) (o .origin .value))
   where
     code : Code
-    code = slotCode (o .origin .kind) n (o .origin .insn) (o .origin .value)
+    code = slotCode (o .origin .mode) (o .origin .kind) n (o .origin .insn) (o .origin .value)
 
     by : Skipping (o .origin .kind) code → (w : Width) × (kindOf (insnAt program n .opc) ≡ Known (MulDivMod Div w Reg))
     by (divides w q) = (w, o .looked ∙ rw q)

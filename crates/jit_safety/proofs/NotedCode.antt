@@ -12,6 +12,7 @@ use Rattle.base.specs.declared.Width.the-variants.{W32, W64}
 use Rattle.base.specs.declared.Size.{Size}
 use Rattle.base.specs.declared.Size.the-variants.{S8, S16, S32, S64}
 use Rattle.ebpf.specs.declared.insn.Insn.{Insn}
+use Rattle.ebpf.specs.declared.kind.Source.{Source}
 use Rattle.ebpf.specs.declared.kind.Source.the-variants.{Imm, Reg}
 use Rattle.ebpf.specs.declared.kind.MulOp.{MulOp}
 use Rattle.ebpf.specs.declared.kind.MulOp.the-variants.{Mul, Div, Mod}
@@ -25,9 +26,11 @@ use Rattle.x86.proofs.WellFormed.{Base, WfPlain}
 use Rattle.x86.specs.Encode.{rex}
 use Rattle.x86.proofs.Lengths.{plain-most}
 use Rattle.x86.specs.Code.{Dest, to}
-use Rattle.jit.specs.MulDivMod.{Code, unlessIs, byZero, guard, operate, fromRax, saved, restored, restores, operated, computed, mulDivModImm, mulDivModReg}
+use Rattle.jit.specs.MulDivMod.{Code, when, unlessIs, byZero, guard, operate, fromRax, saved, restored, restores, operated, computed, mulDivModImm, mulDivModReg}
 use Rattle.jit.specs.MulDivMod as jit
-use Rattle.jit.specs.Slots.{regOf, targetOf, loadImm, aluOf, shiftOf, condOf, testOf, swap, helperCall, localCall, slotCode}
+use Rattle.jit.specs.Slots.{regOf, targetOf, loadImm, aluOf, shiftOf, condOf, testOf, swap, helperCall, localCall, callCode}
+use Rattle.jit.specs.Slots.{lowerHalf, lowest16, clears, cleared, copyWidth, truncated, slotCode}
+use Rattle.jit.specs.declared.Mode.{Mode}
 use Rattle.jit.specs.Frame.{saves, packetStart, packetEnd, argument, enter, prologue, epilogue}
 use Rattle.jit.specs.declared.Flags.{Flags}
 use Rattle.x86.proofs.ReadsLaws.{WfDest, WfCode, wf-append}
@@ -222,6 +225,19 @@ by-imm-piece o w d x h = by (eqb x 0) refl
     by true e = zero-piece o d
     by false e = found _ (imm-fine o w d x e) (computed-wf o w (op (aluImm MOV W64 RCX x)) (regOf d) (omega arith, h) (reg-lt d)) (imm-skips o w d x)
 
+-- what standard mode puts ahead of these, and LE
+lower-piece : (d : ℕ) → Piece (lowerHalf (regOf d))
+lower-piece d = alu-piece MOV W32 (regOf d) d (reg-lt d)
+
+cleared-piece : (m : Mode) (o : MulOp) (w : Width) (s : Source) (i : Insn) → Piece (cleared m o w s i)
+cleared-piece m o w s i = chosen (clears m o w s (i .imm)) (lowerHalf (regOf (i .dst))) [] (lower-piece (i .dst)) none
+
+truncated-piece : (d bits : ℕ) → Piece (truncated (regOf d) bits)
+truncated-piece d bits =
+    let r = regOf d in
+    chosen (eqb bits 16) (lowest16 r) (pick (eqb bits 32) (lowerHalf r) []) (imm-piece AND W32 d 0xffff (omega arith))
+    (chosen (eqb bits 32) (lowerHalf r) [] (lower-piece d) none)
+
 -- a condition's test, and its jump
 jump-piece : (j : x86.Jump) (t : ℕ) → Piece (jump j (to t) ∷ [])
 jump-piece jmp t = unnoted _ tt (omega arith, tt) tt
@@ -229,37 +245,40 @@ jump-piece call t = unnoted _ tt (omega arith, tt) tt
 jump-piece (jcc c) t = unnoted _ tt (omega arith, tt) tt
 
 -- Every kind of slot.
-pub slot-piece : (k : Kind) (slot : ℕ) (i : Insn) (value : ℕ) → Numbers slot i value → Piece (slotCode k slot i value)
-slot-piece (LdAbs z) slot i value n = unnoted _ tt (omega (arith, n .imm)) tt
-slot-piece (LdInd z) slot i value n = unnoted _ tt (omega (arith, n .imm, reg-lt (i .src))) tt
-slot-piece LdDwImm slot i value n = load-piece (i .dst) value (n .wide)
-slot-piece (LdReg z) slot i value n =
+pub slot-piece : (m : Mode) (k : Kind) (slot : ℕ) (i : Insn) (value : ℕ) → Numbers slot i value → Piece (slotCode m k slot i value)
+slot-piece m (LdAbs z) slot i value n = unnoted _ tt (omega (arith, n .imm)) tt
+slot-piece m (LdInd z) slot i value n = unnoted _ tt (omega (arith, n .imm, reg-lt (i .src))) tt
+slot-piece m LdDwImm slot i value n = load-piece (i .dst) value (n .wide)
+slot-piece m (LdReg z) slot i value n =
     unnoted _ (register (λ r. fineNotes (plain (op (load z (regOf (i .src)) r (i .off)) ∷ []))) tt (i .dst)) ((reg-base (i .src), (reg-lt (i .dst), n .off)), tt) tt
-slot-piece (StImm z) slot i value n = unnoted _ tt ((reg-base (i .dst), (n .off, stored-lt z (i .imm))), tt) tt
-slot-piece (StReg z) slot i value n = unnoted _ tt ((reg-lt (i .src), (reg-base (i .dst), n .off)), tt) tt
-slot-piece (Alu o w Imm) slot i value n = imm-piece (aluOf o) w (i .dst) (i .imm) (n .imm)
-slot-piece (Alu o w Reg) slot i value n = alu-piece (aluOf o) w (regOf (i .src)) (i .dst) (reg-lt (i .src))
-slot-piece (Shift o w Imm) slot i value n =
+slot-piece m (StImm z) slot i value n = unnoted _ tt ((reg-base (i .dst), (n .off, stored-lt z (i .imm))), tt) tt
+slot-piece m (StReg z) slot i value n = unnoted _ tt ((reg-lt (i .src), (reg-base (i .dst), n .off)), tt) tt
+slot-piece m (Alu o w Imm) slot i value n = imm-piece (aluOf o) w (i .dst) (i .imm) (n .imm)
+slot-piece m (Alu o w Reg) slot i value n = alu-piece (aluOf o) w (regOf (i .src)) (i .dst) (reg-lt (i .src))
+slot-piece m (Shift o w Imm) slot i value n =
     unnoted _ (register (λ r. fineNotes (plain (op (shiftImm (shiftOf o) w r (i .imm % 256)) ∷ []))) tt (i .dst)) ((reg-lt (i .dst), omega arith), tt) tt
-slot-piece (Shift o w Reg) slot i value n =
+slot-piece m (Shift o w Reg) slot i value n =
     let s = regOf (i .src) in
     unnoted _ (register (λ r. fineNotes (plain (op (alu MOV W64 s RCX) ∷ op (shiftCl (shiftOf o) w r) ∷ []))) tt (i .dst)) ((reg-lt (i .src), omega arith), (reg-lt (i .dst), tt)) tt
-slot-piece (Neg w) slot i value n = unnoted _ (register (λ r. fineNotes (plain (op (unary NEG w r) ∷ []))) tt (i .dst)) (reg-lt (i .dst), tt) tt
-slot-piece (MulDivMod o w Imm) slot i value n = by-imm-piece o w (i .dst) (i .imm) (n .imm)
-slot-piece (MulDivMod o w Reg) slot i value n = by-reg-piece o slot w (i .src) (i .dst) (n .here)
-slot-piece (Mov w Imm) slot i value n = imm-piece MOV w (i .dst) (i .imm) (n .imm)
-slot-piece (Mov w Reg) slot i value n = alu-piece MOV W64 (regOf (i .src)) (i .dst) (reg-lt (i .src))
-slot-piece Le slot i value n = none
-slot-piece Be slot i value n = swap-piece (i .dst) (i .imm)
-slot-piece Ja slot i value n = jump-piece jmp (targetOf slot (i .off))
-slot-piece (Jump c w Imm) slot i value n =
+slot-piece m (Neg w) slot i value n = unnoted _ (register (λ r. fineNotes (plain (op (unary NEG w r) ∷ []))) tt (i .dst)) (reg-lt (i .dst), tt) tt
+slot-piece m (MulDivMod o w Imm) slot i value n =
+    append (cleared m o w Imm i) (mulDivModImm o w (regOf (i .dst)) (i .imm)) (cleared-piece m o w Imm i) (by-imm-piece o w (i .dst) (i .imm) (n .imm))
+slot-piece m (MulDivMod o w Reg) slot i value n =
+    append (cleared m o w Reg i) (mulDivModReg o slot w (regOf (i .src)) (regOf (i .dst))) (cleared-piece m o w Reg i)
+    (by-reg-piece o slot w (i .src) (i .dst) (n .here))
+slot-piece m (Mov w Imm) slot i value n = imm-piece MOV w (i .dst) (i .imm) (n .imm)
+slot-piece m (Mov w Reg) slot i value n = alu-piece MOV (copyWidth m w) (regOf (i .src)) (i .dst) (reg-lt (i .src))
+slot-piece m Le slot i value n = chosen (m .standard) (truncated (regOf (i .dst)) (i .imm)) [] (truncated-piece (i .dst) (i .imm)) none
+slot-piece m Be slot i value n = swap-piece (i .dst) (i .imm)
+slot-piece m Ja slot i value n = jump-piece jmp (targetOf slot (i .off))
+slot-piece m (Jump c w Imm) slot i value n =
     append (op (aluImm (testOf c) w (regOf (i .dst)) (i .imm)) ∷ []) (jump (jcc (condOf c)) (to (targetOf slot (i .off))) ∷ [])
     (imm-piece (testOf c) w (i .dst) (i .imm) (n .imm)) (jump-piece (jcc (condOf c)) (targetOf slot (i .off)))
-slot-piece (Jump c w Reg) slot i value n =
+slot-piece m (Jump c w Reg) slot i value n =
     append (op (alu (testOf c) w (regOf (i .src)) (regOf (i .dst))) ∷ []) (jump (jcc (condOf c)) (to (targetOf slot (i .off))) ∷ [])
     (alu-piece (testOf c) w (regOf (i .src)) (i .dst) (reg-lt (i .src))) (jump-piece (jcc (condOf c)) (targetOf slot (i .off)))
-slot-piece Call slot i value n = chosen (eqb (i .src) 0) (helperCall value) (localCall (targetOf slot (i .imm))) (helper-piece value (n .wide)) (local-piece (targetOf slot (i .imm)))
-slot-piece Exit slot i value n = unnoted _ tt (tt, tt) tt
+slot-piece m Call slot i value n = chosen (eqb (i .src) 0) (helperCall value) (localCall (targetOf slot (i .imm))) (helper-piece value (n .wide)) (local-piece (targetOf slot (i .imm)))
+slot-piece m Exit slot i value n = unnoted _ tt (tt, tt) tt
 
 -- Only a division by a register has a jump that is not listed.
 pub data Skipping (k : Kind) (c : Code) : Type 0 where
@@ -283,10 +302,28 @@ imm-listed o w d x = by o (eqb x 0)
     by Mod true = tt
     by o false = computed-listed o w (aluImm MOV W64 RCX x) d
 
-by-reg-skipping : (o : MulOp) (w : Width) (slot s d : ℕ) → Skipping (MulDivMod o w Reg) (mulDivModReg o slot w (regOf s) (regOf d))
-by-reg-skipping Mul w slot s d = none-skips (computed-listed Mul w (alu MOV W64 (regOf s) RCX) d)
-by-reg-skipping Div w slot s d = divides w refl
-by-reg-skipping Mod w slot s d = none-skips (computed-listed Mod w (alu MOV W64 (regOf s) RCX) d)
+-- what standard mode puts ahead has no jump
+cleared-listed : (m : Mode) (o : MulOp) (w : Width) (s : Source) (i : Insn) (c : Code) → T (allListed c) → T (allListed (cleared m o w s i ++ c))
+cleared-listed m o w s i c h = by (clears m o w s (i .imm))
+  where
+    by : (t : Bool) → T (allListed (when t (lowerHalf (regOf (i .dst))) ++ c))
+    by true = h
+    by false = h
+
+truncated-listed : (t : Bool) (d bits : ℕ) → T (allListed (when t (truncated d bits)))
+truncated-listed false d bits = tt
+truncated-listed true d bits = by (eqb bits 16) (eqb bits 32)
+  where
+    by : (s t : Bool) → T (allListed (pick s (lowest16 d) (pick t (lowerHalf d) [])))
+    by true t = tt
+    by false true = tt
+    by false false = tt
+
+by-reg-skipping : (m : Mode) (o : MulOp) (w : Width) (slot : ℕ) (i : Insn)
+    → Skipping (MulDivMod o w Reg) (cleared m o w Reg i ++ mulDivModReg o slot w (regOf (i .src)) (regOf (i .dst)))
+by-reg-skipping m Mul w slot i = none-skips (cleared-listed m Mul w Reg i _ (computed-listed Mul w (alu MOV W64 (regOf (i .src)) RCX) (i .dst)))
+by-reg-skipping m Div w slot i = divides w refl
+by-reg-skipping m Mod w slot i = none-skips (cleared-listed m Mod w Reg i _ (computed-listed Mod w (alu MOV W64 (regOf (i .src)) RCX) (i .dst)))
 
 swap-listed : (d bits : ℕ) → T (allListed (swap d bits))
 swap-listed d bits = by (eqb bits 16) (eqb bits 32)
@@ -296,35 +333,35 @@ swap-listed d bits = by (eqb bits 16) (eqb bits 32)
     by false true = tt
     by false false = tt
 
-call-listed : (slot : ℕ) (i : Insn) (value : ℕ) → T (allListed (slotCode Call slot i value))
+call-listed : (slot : ℕ) (i : Insn) (value : ℕ) → T (allListed (callCode slot i value))
 call-listed slot i value = by (eqb (i .src) 0)
   where
     by : (t : Bool) → T (allListed (pick t (helperCall value) (localCall (targetOf slot (i .imm)))))
     by true = tt
     by false = tt
 
-pub slot-skipping : (k : Kind) (slot : ℕ) (i : Insn) (value : ℕ) → Skipping k (slotCode k slot i value)
-slot-skipping (LdAbs z) slot i value = none-skips tt
-slot-skipping (LdInd z) slot i value = none-skips tt
-slot-skipping LdDwImm slot i value = none-skips tt
-slot-skipping (LdReg z) slot i value = none-skips tt
-slot-skipping (StImm z) slot i value = none-skips tt
-slot-skipping (StReg z) slot i value = none-skips tt
-slot-skipping (Alu o w Imm) slot i value = none-skips tt
-slot-skipping (Alu o w Reg) slot i value = none-skips tt
-slot-skipping (Shift o w Imm) slot i value = none-skips tt
-slot-skipping (Shift o w Reg) slot i value = none-skips tt
-slot-skipping (Neg w) slot i value = none-skips tt
-slot-skipping (MulDivMod o w Imm) slot i value = none-skips (imm-listed o w (i .dst) (i .imm))
-slot-skipping (MulDivMod o w Reg) slot i value = by-reg-skipping o w slot (i .src) (i .dst)
-slot-skipping (Mov w Imm) slot i value = none-skips tt
-slot-skipping (Mov w Reg) slot i value = none-skips tt
-slot-skipping Le slot i value = none-skips tt
-slot-skipping Be slot i value = none-skips (swap-listed (regOf (i .dst)) (i .imm))
-slot-skipping Ja slot i value = none-skips tt
-slot-skipping (Jump c w s) slot i value = none-skips tt
-slot-skipping Call slot i value = none-skips (call-listed slot i value)
-slot-skipping Exit slot i value = none-skips tt
+pub slot-skipping : (m : Mode) (k : Kind) (slot : ℕ) (i : Insn) (value : ℕ) → Skipping k (slotCode m k slot i value)
+slot-skipping m (LdAbs z) slot i value = none-skips tt
+slot-skipping m (LdInd z) slot i value = none-skips tt
+slot-skipping m LdDwImm slot i value = none-skips tt
+slot-skipping m (LdReg z) slot i value = none-skips tt
+slot-skipping m (StImm z) slot i value = none-skips tt
+slot-skipping m (StReg z) slot i value = none-skips tt
+slot-skipping m (Alu o w Imm) slot i value = none-skips tt
+slot-skipping m (Alu o w Reg) slot i value = none-skips tt
+slot-skipping m (Shift o w Imm) slot i value = none-skips tt
+slot-skipping m (Shift o w Reg) slot i value = none-skips tt
+slot-skipping m (Neg w) slot i value = none-skips tt
+slot-skipping m (MulDivMod o w Imm) slot i value = none-skips (cleared-listed m o w Imm i _ (imm-listed o w (i .dst) (i .imm)))
+slot-skipping m (MulDivMod o w Reg) slot i value = by-reg-skipping m o w slot i
+slot-skipping m (Mov w Imm) slot i value = none-skips tt
+slot-skipping m (Mov w Reg) slot i value = none-skips tt
+slot-skipping m Le slot i value = none-skips (truncated-listed (m .standard) (regOf (i .dst)) (i .imm))
+slot-skipping m Be slot i value = none-skips (swap-listed (regOf (i .dst)) (i .imm))
+slot-skipping m Ja slot i value = none-skips tt
+slot-skipping m (Jump c w s) slot i value = none-skips tt
+slot-skipping m Call slot i value = none-skips (call-listed slot i value)
+slot-skipping m Exit slot i value = none-skips tt
 
 -- The frame: the same instructions, and their constants.
 pub prologue-same : (f : Flags) → instrs (prologueCells f) ≡ prologue f

@@ -30,7 +30,7 @@ use Rattle.jit_safety.proofs.Program.{Origin, Origins}
 
 -- The blocks.
 pub block-piece : (slot : ℕ) (b : Block) → Origin slot b → Piece (b .code)
-block-piece slot b o = rw (ap (λ (b : Block). b .code) (o .same)) (slot-piece (o .kind) slot (o .insn) (o .value) (o .numbers))
+block-piece slot b o = rw (ap (λ (b : Block). b .code) (o .same)) (slot-piece (o .mode) (o .kind) slot (o .insn) (o .value) (o .numbers))
 
 abbrev pub flatCells : (slot : ℕ) (bs : List Block) → Origins slot bs → List Cell
 flatCells slot [] o = []

@@ -28,11 +28,12 @@ use Rattle.jit.specs.declared.Bad.the-variants.{Nowhere, At}
 use Rattle.jit.specs.declared.Refusal.{Refusal}
 use Rattle.base.proofs.Tests.{true-T}
 use Rattle.jit.specs.declared.Flags.{Flags}
+use Rattle.jit.specs.declared.Mode.{Mode}
 use Rattle.jit.specs.Limits.{shortestPage, longestPage, longestProgram, anchor}
 use Rattle.jit.specs.Room.{longestCode}
 use Rattle.jit.specs.Frame.{prologue, epilogue}
 use Rattle.jit.proofs.FrameLaws.{prologue-targets, epilogue-targets}
-use Rattle.jit.specs.Translation.{Inputs, slotsOf, found, helperOf, Block, blockOf, Operand, lacks, has, wideValue, swapBits, helperValue, operandOf, Step}
+use Rattle.jit.specs.Translation.{Inputs, slotsOf, found, helperOf, Block, blockOf, Operand, lacks, has, wideValue, swapBits, leBits, swapValue, helperValue, operandOf, Step}
 use Rattle.jit.specs.Translation.{stop, go, taken, known, goodRegisters, stepRead, stepAt, Walk, refused, done, slotsWide, within, after, rest, flat}
 use Rattle.jit.specs.Translation.{goodTarget, badIn, orElse, firstBad, Outcome, no, yes, whole, locations, placeOf, accepted, unlessBad, finish, walkOf}
 use Rattle.jit.specs.Passes.{exitOf}
@@ -44,10 +45,11 @@ use Rattle.jit_safety.proofs.NotedCode.{Numbers}
 
 -- a block that a slot gave
 pub record Origin (slot : ℕ) (b : Block) : Type 0 where
+  pub mode : Mode
   pub kind : Kind
   pub insn : Insn
   pub value : ℕ
-  pub same : b ≡ blockOf kind slot insn value
+  pub same : b ≡ blockOf mode kind slot insn value
   pub numbers : Numbers slot insn value
 
 -- the slot is the program's: its opcode has that kind
@@ -96,22 +98,22 @@ module _ (x : Inputs) (given : Given x) where
     abbrev Looks : Lookup → Type 0
     Looks l = kindOf (insnAt (x .filter .program) slot .opc) ≡ l
 
-    comes : (k : Kind) (value : ℕ) → value < 2 ^ 64 → Looks (Known k) → Comes (x .filter .program) slot (go (blockOf k slot (insnAt (x .filter .program) slot) value))
+    comes : (k : Kind) (value : ℕ) → value < 2 ^ 64 → Looks (Known k) → Comes (x .filter .program) slot (go (blockOf (x .filter .mode) k slot (insnAt (x .filter .program) slot) value))
     comes k value h e =
         let n : Numbers slot (insnAt (x .filter .program) slot) value = record { here = small; off = off-lt slot; imm = imm-lt slot; wide = h } in
-        record { origin = record { kind = k; insn = insnAt (x .filter .program) slot; value = value; same = refl; numbers = n }; looked = e }
+        record { origin = record { mode = x .filter .mode; kind = k; insn = insnAt (x .filter .program) slot; value = value; same = refl; numbers = n }; looked = e }
 
     abbrev Taken : Kind → Operand → Type 0
-    Taken k o = Looks (Known k) → Comes (x .filter .program) slot (taken k slot (insnAt (x .filter .program) slot) o)
+    Taken k o = Looks (Known k) → Comes (x .filter .program) slot (taken (x .filter .mode) k slot (insnAt (x .filter .program) slot) o)
 
     taken-wide : (t : Bool)
         → Taken LdDwImm (wideValue slot (insnAt (x .filter .program) slot) (pick t Torn (Whole (insnAt (x .filter .program) (slot + 1)))))
     taken-wide true e = tt
     taken-wide false e = comes LdDwImm _ (omega (arith, imm-lt slot, imm-lt (slot + 1))) e
 
-    taken-swap : (t : Bool) → Taken Be (pick t (has 0) (lacks (Refusal.BadSwap (record { number = slot }))))
-    taken-swap true e = comes Be 0 (omega arith) e
-    taken-swap false e = tt
+    taken-swap : (k : Kind) (t : Bool) → Taken k (swapValue t slot)
+    taken-swap k true e = comes k 0 (omega arith) e
+    taken-swap k false e = tt
 
     abbrev helper : Helper
     helper = helperOf (x .filter .ids) (x .filter .addresses) (insnAt (x .filter .program) slot .imm)
@@ -126,7 +128,7 @@ module _ (x : Inputs) (given : Given x) where
     taken-call false true e = comes Call 0 (omega arith) e
     taken-call false false e = tt
 
-    taken-kind : (k : Kind) → Taken k (operandOf (x .filter .ids) (x .filter .addresses) k slot (insnAt (x .filter .program) slot) (readAt (x .filter .program) (slot + 1)))
+    taken-kind : (k : Kind) → Taken k (operandOf (x .filter) k slot (insnAt (x .filter .program) slot) (readAt (x .filter .program) (slot + 1)))
     unfolding readAt
     taken-kind (LdAbs z) = comes (LdAbs z) 0 (omega arith)
     taken-kind (LdInd z) = comes (LdInd z) 0 (omega arith)
@@ -139,15 +141,15 @@ module _ (x : Inputs) (given : Given x) where
     taken-kind (Neg w) = comes (Neg w) 0 (omega arith)
     taken-kind (MulDivMod o w s) = comes (MulDivMod o w s) 0 (omega arith)
     taken-kind (Mov w s) = comes (Mov w s) 0 (omega arith)
-    taken-kind Le = comes Le 0 (omega arith)
-    taken-kind Be = taken-swap (swapBits (insnAt (x .filter .program) slot .imm))
+    taken-kind Le = taken-swap Le (leBits (x .filter .mode) (insnAt (x .filter .program) slot .imm))
+    taken-kind Be = taken-swap Be (swapBits (insnAt (x .filter .program) slot .imm))
     taken-kind Ja = comes Ja 0 (omega arith)
     taken-kind (Jump c w s) = comes (Jump c w s) 0 (omega arith)
     taken-kind Call = taken-call (eqb (insnAt (x .filter .program) slot .src) 0) (eqb (insnAt (x .filter .program) slot .src) 1)
     taken-kind Exit = comes Exit 0 (omega arith)
 
     abbrev step : Lookup → Step
-    step l = known (x .filter .ids) (x .filter .addresses) l slot (insnAt (x .filter .program) slot) (readAt (x .filter .program) (slot + 1))
+    step l = known (x .filter) l slot (insnAt (x .filter .program) slot) (readAt (x .filter .program) (slot + 1))
 
     known-comes : (l : Lookup) → Looks l → Comes (x .filter .program) slot (step l)
     known-comes Unknown e = tt
@@ -164,7 +166,7 @@ module _ (x : Inputs) (given : Given x) where
       where
         by : (t : Bool)
             → Comes (x .filter .program) slot
-            (stepRead (x .filter .ids) (x .filter .addresses) slot (pick t Torn (Whole (insnAt (x .filter .program) slot)))
+            (stepRead (x .filter) slot (pick t Torn (Whole (insnAt (x .filter .program) slot)))
             (readAt (x .filter .program) (slot + 1)))
         by true = tt
         by false = let i = insnAt (x .filter .program) slot in registers-comes (goodRegisters i) (kindOf (i .opc)) refl

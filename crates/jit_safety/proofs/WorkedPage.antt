@@ -20,7 +20,7 @@ use Rattle.x86_machine.proofs.WorkedRun.{pageAdding}
 abbrev exitAlone : Inputs
 exitAlone =
     record {
-      filter = record { program = 0x95 ∷ replicate 7 0; ids = []; addresses = [] };
+      filter = record { program = 0x95 ∷ replicate 7 0; mode = record { standard = false }; ids = []; addresses = [] };
       flags = record { use_mbuff = false; update_data_ptr = false };
       page = shortestPage;
       locations = 2;

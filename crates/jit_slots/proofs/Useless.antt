@@ -14,14 +14,15 @@ use Rattle.ebpf.specs.Kinds.{aluOf, shiftOf, conditionOf}
 use Rattle.ebpf.specs.declared.insn.Insn.{Insn}
 use Rattle.ebpf.specs.declared.kind.Source.{Source}
 use Rattle.ebpf.specs.declared.kind.Source.the-variants.{Imm, Reg}
-use Rattle.ebpf.specs.declared.kind.Kind.the-variants.{LdAbs, LdInd, LdDwImm, LdReg, StImm, StReg, Neg, Ja}
+use Rattle.ebpf.specs.declared.kind.Kind.the-variants.{LdAbs, LdInd, LdDwImm, LdReg, StImm, StReg, Neg, Le, Ja}
 use Rattle.x86.specs.Registers.{RAX, RSI, RDI, R10, R11}
 use Rattle.x86.specs.Instr as x86
-use Rattle.x86.specs.Instr.{op, alu, aluImm, shiftImm, shiftCl, unary, movabs, rol16, bswap, load, store, storeImm, jump, jcc, callReg, NEG, ADD, SUB, CMP, MOV, SHR, JG, JA, JNE}
+use Rattle.x86.specs.Instr.{op, alu, aluImm, shiftImm, shiftCl, unary, movabs, rol16, bswap, load, store, storeImm, jump, jcc, callReg, NEG, ADD, AND, SUB, CMP, MOV, SHR, JG, JA, JNE}
 use Rattle.x86.specs.Encode.{encodePlain, rex, modrm, memory, bare, short}
 use Rattle.x86.specs.Code.{to, conditional, plainJump}
 use Rattle.x86.specs.Fill.{blanks}
 use Rattle.jit.specs.MulDivMod.{Code}
+use Rattle.jit.specs.Modes.{rust, standard}
 use Rattle.jit.specs.Slots.{regOf, targetOf, loadImm, aluCode, shiftCode, movCode, swap, jumpCode, callCode, slotCode}
 use Rattle.jit_recording.specs.Emits.{Tables, Emits, HasEntry}
 use Rattle.jit_recording.proofs.EmitsLaws.{entry}
@@ -56,35 +57,43 @@ handled =
     ∷ plain (shiftImm SHR W64 RDI 3) for shifts W64 Imm (coded 0xc7 1 0 0 3)
     ∷ plain (shiftCl SHR W32 RDI) for shifts W32 Reg (coded 0x7c 1 2 0 0)
     -- emit_neg: at 64 bits; src for dst
-    ∷ plain (unary NEG W64 RDI) for blanks (slotCode (Neg W32) 0 (insn 1 2 0 0) 0)
-    ∷ plain (unary NEG W64 RSI) for blanks (slotCode (Neg W64) 0 (insn 1 2 0 0) 0)
+    ∷ plain (unary NEG W64 RDI) for blanks (slotCode rust (Neg W32) 0 (insn 1 2 0 0) 0)
+    ∷ plain (unary NEG W64 RSI) for blanks (slotCode rust (Neg W64) 0 (insn 1 2 0 0) 0)
     -- emit_mov: MOV32_IMM in the 64-bit form; MOV32_REG at 32 bits, which rbpf copies whole
-    ∷ plain (aluImm MOV W64 RDI 5) for blanks (movCode W32 Imm (insn 1 0 0 5))
-    ∷ plain (alu MOV W32 RSI RDI) for blanks (movCode W32 Reg (insn 1 2 0 0))
+    ∷ plain (aluImm MOV W64 RDI 5) for blanks (movCode rust W32 Imm (insn 1 0 0 5))
+    ∷ plain (alu MOV W32 RSI RDI) for blanks (movCode rust W32 Reg (insn 1 2 0 0))
+    -- .. and in standard mode: MOV32_REG at 64 bits; its operands swapped
+    ∷ plain (alu MOV W64 RSI RDI) for blanks (movCode standard W32 Reg (insn 1 2 0 0))
+    ∷ plain (alu MOV W32 RDI RSI) for blanks (movCode standard W32 Reg (insn 1 2 0 0))
+    -- emit_le: LE 16 with 0xff; LE 32 at 64 bits; LE 64 cut to 32; code with the mode off
+    ∷ plain (aluImm AND W32 RDI 0xff) for blanks (slotCode standard Le 0 (insn 1 0 0 16) 0)
+    ∷ plain (alu MOV W64 RDI RDI) for blanks (slotCode standard Le 0 (insn 1 0 0 32) 0)
+    ∷ plain (alu MOV W32 RDI RDI) for blanks (slotCode standard Le 0 (insn 1 0 0 64) 0)
+    ∷ plain (aluImm AND W32 RDI 0xffff) for blanks (slotCode rust Le 0 (insn 1 0 0 16) 0)
     -- emit_be: 16 bits whose upper ones are kept; 32 bits swapped as 64
     ∷ plain (rol16 RDI 8) for blanks (swap (regOf 1) 16)
     ∷ plain (bswap W64 RDI) for blanks (swap (regOf 1) 32)
     -- emit_ld_abs: off for imm; r1 for the packet's pointer
-    ∷ plain (load S16 R10 RAX 0) for blanks (slotCode (LdAbs S16) 0 (insn 0 0 0 12) 0)
-    ∷ plain (load S16 RDI RAX 12) for blanks (slotCode (LdAbs S16) 0 (insn 0 0 0 12) 0)
+    ∷ plain (load S16 R10 RAX 0) for blanks (slotCode rust (LdAbs S16) 0 (insn 0 0 0 12) 0)
+    ∷ plain (load S16 RDI RAX 12) for blanks (slotCode rust (LdAbs S16) 0 (insn 0 0 0 12) 0)
     -- emit_ld_ind: without the register's part; added to the packet's pointer itself
-    ∷ blanks (op (alu MOV W64 R10 R11) ∷ op (load S8 R11 RAX 12) ∷ []) for blanks (slotCode (LdInd S8) 0 (insn 0 1 0 12) 0)
-    ∷ blanks (op (alu ADD W64 RDI R10) ∷ op (load S8 R10 RAX 12) ∷ []) for blanks (slotCode (LdInd S8) 0 (insn 0 1 0 12) 0)
+    ∷ blanks (op (alu MOV W64 R10 R11) ∷ op (load S8 R11 RAX 12) ∷ []) for blanks (slotCode rust (LdInd S8) 0 (insn 0 1 0 12) 0)
+    ∷ blanks (op (alu ADD W64 RDI R10) ∷ op (load S8 R10 RAX 12) ∷ []) for blanks (slotCode rust (LdInd S8) 0 (insn 0 1 0 12) 0)
     -- emit_load_imm: 2147483648 in four bytes, which would be extended; -1 in eight
     ∷ plain (aluImm MOV W64 RDI 0x80000000) for encodePlain (loadImm RDI 0x80000000)
     ∷ plain (movabs RDI 0xffffffffffffffff) for encodePlain (loadImm RDI 0xffffffffffffffff)
     -- emit_ld_dw_imm: the lower half alone; into src
-    ∷ plain (aluImm MOV W64 RDI 7) for blanks (slotCode LdDwImm 0 (insn 1 0 0 7) 0x100000007)
-    ∷ plain (aluImm MOV W64 RAX 7) for blanks (slotCode LdDwImm 0 (insn 1 0 0 7) 7)
+    ∷ plain (aluImm MOV W64 RDI 7) for blanks (slotCode rust LdDwImm 0 (insn 1 0 0 7) 0x100000007)
+    ∷ plain (aluImm MOV W64 RAX 7) for blanks (slotCode rust LdDwImm 0 (insn 1 0 0 7) 7)
     -- emit_ld_reg: dst for the base; four bytes for two
-    ∷ plain (load S64 RDI RSI 4) for blanks (slotCode (LdReg S64) 0 (insn 1 2 4 0) 0)
-    ∷ plain (load S32 RSI RDI 4) for blanks (slotCode (LdReg S16) 0 (insn 1 2 4 0) 0)
+    ∷ plain (load S64 RDI RSI 4) for blanks (slotCode rust (LdReg S64) 0 (insn 1 2 4 0) 0)
+    ∷ plain (load S32 RSI RDI 4) for blanks (slotCode rust (LdReg S16) 0 (insn 1 2 4 0) 0)
     -- emit_st_imm: imm for off; four bytes of a one-byte constant
-    ∷ plain (storeImm S32 RDI 9 4) for blanks (slotCode (StImm S32) 0 (insn 1 0 4 9) 0)
-    ∷ plain (storeImm S32 RDI 4 9) for blanks (slotCode (StImm S8) 0 (insn 1 0 4 9) 0)
+    ∷ plain (storeImm S32 RDI 9 4) for blanks (slotCode rust (StImm S32) 0 (insn 1 0 4 9) 0)
+    ∷ plain (storeImm S32 RDI 4 9) for blanks (slotCode rust (StImm S8) 0 (insn 1 0 4 9) 0)
     -- emit_st_reg: src for the base; a byte store without its REX, which would store BH for RDI
-    ∷ plain (store S32 RDI RSI 4) for blanks (slotCode (StReg S32) 0 (insn 1 2 4 0) 0)
-    ∷ (0x88 ∷ 0x7e ∷ 0x04 ∷ []) for blanks (slotCode (StReg S8) 0 (insn 2 1 4 0) 0)
+    ∷ plain (store S32 RDI RSI 4) for blanks (slotCode rust (StReg S32) 0 (insn 1 2 4 0) 0)
+    ∷ (0x88 ∷ 0x7e ∷ 0x04 ∷ []) for blanks (slotCode rust (StReg S8) 0 (insn 2 1 4 0) 0)
     ∷ []
 
 pub handlers : Refuted handled
@@ -93,7 +102,7 @@ handlers = refuted handled refl
 
 module _ {c c′ : List ℕ} {t t′ : Tables} {at j at′ j′ : ℕ} where
   -- emit_ja: a target counted from its own slot, a field that is the jump's end, a jump that is not counted
-  pub ja : (slot : ℕ) (i : Insn) → Emits c c′ t t′ at j at′ j′ slot (slotCode Ja slot i 0) → HasEntry t j
+  pub ja : (slot : ℕ) (i : Insn) → Emits c c′ t t′ at j at′ j′ slot (slotCode rust Ja slot i 0) → HasEntry t j
       → (getD (t′ .targets) j 0 ≡ (slot + i .off) % 2 ^ 32 → ⊥) × ((getD (t′ .fields) j 0 ≡ at′ → ⊥) × (j′ ≡ j → ⊥))
   unfolding targetOf
   ja slot i e h =
@@ -129,7 +138,7 @@ module _ {c c′ : List ℕ} {t t′ : Tables} {at j at′ j′ : ℕ} where
       (λ z. omega (arith, z, entry (e .targets) (h .target)), (λ z. omega (arith, z, entry (e .fields) (h .field), e .wrote .next), λ z. omega (arith, z, e .wrote .next)))
 
   -- their records: je and jmp of one kind, a call that is a jump, a maker one slot late or none
-  pub ja-named : (slot : ℕ) (i : Insn) → Emits c c′ t t′ at j at′ j′ slot (slotCode Ja slot i 0) → HasEntry t j
+  pub ja-named : (slot : ℕ) (i : Insn) → Emits c c′ t t′ at j at′ j′ slot (slotCode rust Ja slot i 0) → HasEntry t j
       → (getD (t′ .kinds) j 0 ≡ conditional → ⊥) × ((getD (t′ .makers) j 0 ≡ slot + 1 → ⊥) × (t′ .makers ≡ t .makers → getD (t .makers) j 0 ≢ slot → ⊥))
   ja-named slot i e h = (
     λ z. omega (arith, z, entry (e .kinds) (h .kind)),

@@ -2,16 +2,20 @@
 ghost use mathlib.Core.Path.{_≡_};
 ghost use Prim.Native.Nat.{_<_};
 ghost use Rattle.ebpf.specs.Kinds.{aluOf, shiftOf};
-ghost use Rattle.ebpf.specs.declared.kind.Kind.the-variants.{Neg};
+ghost use Rattle.ebpf.specs.declared.kind.Kind.the-variants.{Neg, Le};
 ghost use Rattle.x86.specs.Fill.{blanks};
-ghost use Rattle.x86.specs.Encode.{aluOpcode, aluExtension, shiftExtension};
+ghost use Rattle.x86.specs.Encode.{aluOpcode, aluExtension, shiftExtension, encodePlain};
+ghost use Rattle.x86.specs.Instr as x86;
 ghost use Rattle.x86_emit.specs.Lent.{Wrote, Fits, FitAll};
+ghost use Rattle.jit.specs.Modes.{rust};
 ghost use Rattle.jit.specs.Slots as jit;
-ghost use Rattle.jit.specs.Slots.{slotCode, aluCode, shiftCode, movCode, swap, regOf};
+ghost use Rattle.jit.specs.Slots.{slotCode, aluCode, shiftCode, movCode, truncated, swap, regOf};
 use base::Position;
 use base::Width;
 use ebpf::insn::Insn;
 use ebpf::kind::Source;
+use jit::Mode;
+use jit_recording::mode;
 use jit_recording::register;
 use x86::ADD;
 use x86::AND;
@@ -174,7 +178,7 @@ pub fn emit_shift(code: &mut [u8], at: Position, width: Width, source: Source, i
 
 pub fn emit_neg(code: &mut [u8], at: Position, width: Width, i: Insn) -> Position
     requires { ⌜ Fits code at × (i .dst < 11) ⌝ }
-    ensures { λ r. ⌜ Wrote code at r (blanks (slotCode (Neg width) 0 i 0)) ⌝ }
+    ensures { λ r. ⌜ Wrote code at r (blanks (slotCode rust (Neg width) 0 i 0)) ⌝ }
 {
     alu::emit_alu_ext(
         code,
@@ -186,22 +190,58 @@ pub fn emit_neg(code: &mut [u8], at: Position, width: Width, i: Insn) -> Positio
     )
 }
 
-pub fn emit_mov(code: &mut [u8], at: Position, width: Width, source: Source, i: Insn) -> Position
+// A call for each width, so that in each the REX prefix is as good as a constant.
+fn emit_copy(code: &mut [u8], at: Position, mode: Mode, width: Width, src: u8, dst: u8) -> Position
+    requires { ⌜ Fits code at × ((src < 16) × (dst < 16)) ⌝ }
+    ensures { λ r. ⌜ Wrote code at r (encodePlain (x86.alu x86.MOV (jit.copyWidth mode width) src dst)) ⌝ }
+{
+    match mode::copy_width(mode, width) {
+        Width::W32 => alu::emit_alu(code, at, Width::W32, MOV, src, dst),
+        Width::W64 => alu::emit_alu(code, at, Width::W64, MOV, src, dst),
+    }
+}
+
+pub fn emit_mov(
+    code: &mut [u8],
+    at: Position,
+    mode: Mode,
+    width: Width,
+    source: Source,
+    i: Insn,
+) -> Position
     requires { ⌜ Fits code at × ((i .dst < 11) × (i .src < 11)) ⌝ }
-    ensures { λ r. ⌜ Wrote code at r (blanks (movCode width source i)) ⌝ }
+    ensures { λ r. ⌜ Wrote code at r (blanks (movCode mode width source i)) ⌝ }
 {
     let dst = register::map_register(i.dst);
     match source {
         Source::Imm => alu::emit_alu_imm32(code, at, width, GROUP11, GROUP11_MOV, dst, i.imm),
-        Source::Reg => alu::emit_alu(
-            code,
-            at,
-            Width::W64,
-            MOV,
-            register::map_register(i.src),
-            dst,
-        ),
+        Source::Reg => emit_copy(code, at, mode, width, register::map_register(i.src), dst),
     }
+}
+
+// The low 16 or 32 bits remain.
+fn emit_truncated(code: &mut [u8], at: Position, dst: u8, bits: u32) -> Position
+    requires { ⌜ Fits code at × (dst < 16) ⌝ }
+    ensures { λ r. ⌜ Wrote code at r (blanks (truncated dst bits)) ⌝ }
+{
+    if bits == 16 {
+        return alu::emit_alu_imm32(code, at, Width::W32, GROUP1, GROUP1_AND, dst, 0xffff);
+    }
+    if bits == 32 {
+        return alu::emit_alu(code, at, Width::W32, MOV, dst, dst);
+    }
+    at
+}
+
+// LE, for which the Rust has no code.
+pub fn emit_le(code: &mut [u8], at: Position, mode: Mode, i: Insn) -> Position
+    requires { ⌜ Fits code at × (i .dst < 11) ⌝ }
+    ensures { λ r. ⌜ Wrote code at r (blanks (slotCode mode Le 0 i 0)) ⌝ }
+{
+    if mode.standard {
+        return emit_truncated(code, at, register::map_register(i.dst), i.imm);
+    }
+    at
 }
 
 // BE: 16 is a rotation of the low half, with what is above cleared; 32 and 64 a byte swap.

@@ -8,6 +8,7 @@ ghost use Rattle.x86.specs.Instr as x86;
 ghost use Rattle.x86.specs.Fill.{blanks};
 ghost use Rattle.x86.specs.Encode.{condNumber, encodePlain};
 ghost use Rattle.x86_emit.specs.Lent.{Wrote, Fits, FitAll};
+ghost use Rattle.jit.specs.Modes.{rust};
 ghost use Rattle.jit.specs.Slots.{slotCode, condOf, testOf, compare, jumpCode, helperCall, localCall, callCode};
 ghost use Rattle.jit_slots.specs.JumpParts.{callSaves, callRestores};
 ghost use Rattle.jit_recording.specs.Lent.{Emits, Room};
@@ -59,9 +60,9 @@ pub fn emit_ja(
     slot: Slot,
     i: Insn,
 ) -> Emission
-    requires { ⌜ Room code fields targets kinds makers e (slotCode Ja (slot .number) i 0) ⌝ }
+    requires { ⌜ Room code fields targets kinds makers e (slotCode rust Ja (slot .number) i 0) ⌝ }
     requires { ⌜ slot .number < 2 ^ 16 ⌝ }
-    ensures { λ r. ⌜ Emits code fields targets kinds makers e r slot (slotCode Ja (slot .number) i 0) ⌝ }
+    ensures { λ r. ⌜ Emits code fields targets kinds makers e r slot (slotCode rust Ja (slot .number) i 0) ⌝ }
 {
     let target = emission::target_of(slot, i.off);
     let next = jump::emit_jmp(code, e.at, 0);

@@ -4,6 +4,7 @@ ghost use Rattle.ebpf.specs.declared.kind.Kind.the-variants.{LdAbs, LdInd, LdDw
 ghost use Rattle.x86.specs.Fill.{blanks};
 ghost use Rattle.x86.specs.Encode.{encodePlain};
 ghost use Rattle.x86_emit.specs.Lent.{Wrote, Fits, FitAll};
+ghost use Rattle.jit.specs.Modes.{rust};
 ghost use Rattle.jit.specs.Slots.{slotCode, loadImm};
 use base::Position;
 use base::Size;
@@ -23,14 +24,14 @@ use x86_emit::memory;
 // R10 is a constant pointer to the packet.
 pub fn emit_ld_abs(code: &mut [u8], at: Position, size: Size, i: Insn) -> Position
     requires { ⌜ Fits code at ⌝ }
-    ensures { λ r. ⌜ Wrote code at r (blanks (slotCode (LdAbs size) 0 i 0)) ⌝ }
+    ensures { λ r. ⌜ Wrote code at r (blanks (slotCode rust (LdAbs size) 0 i 0)) ⌝ }
 {
     memory::emit_load(code, at, size, R10, RAX, i.imm)
 }
 
 pub fn emit_ld_ind(code: &mut [u8], at: Position, size: Size, i: Insn) -> Position
-    requires { ⌜ FitAll code at (slotCode (LdInd size) 0 i 0) × (i .src < 11) ⌝ }
-    ensures { λ r. ⌜ Wrote code at r (blanks (slotCode (LdInd size) 0 i 0)) ⌝ }
+    requires { ⌜ FitAll code at (slotCode rust (LdInd size) 0 i 0) × (i .src < 11) ⌝ }
+    ensures { λ r. ⌜ Wrote code at r (blanks (slotCode rust (LdInd size) 0 i 0)) ⌝ }
 {
     let src = register::map_register(i.src);
     let copied = alu::emit_alu(code, at, Width::W64, MOV, R10, R11);
@@ -59,14 +60,14 @@ pub fn emit_load_imm(code: &mut [u8], at: Position, dst: u8, value: u64) -> Posi
 
 pub fn emit_ld_dw_imm(code: &mut [u8], at: Position, i: Insn, value: u64) -> Position
     requires { ⌜ Fits code at × (i .dst < 11) ⌝ }
-    ensures { λ r. ⌜ Wrote code at r (blanks (slotCode LdDwImm 0 i value)) ⌝ }
+    ensures { λ r. ⌜ Wrote code at r (blanks (slotCode rust LdDwImm 0 i value)) ⌝ }
 {
     emit_load_imm(code, at, register::map_register(i.dst), value)
 }
 
 pub fn emit_ld_reg(code: &mut [u8], at: Position, size: Size, i: Insn) -> Position
     requires { ⌜ Fits code at × ((i .dst < 11) × (i .src < 11)) ⌝ }
-    ensures { λ r. ⌜ Wrote code at r (blanks (slotCode (LdReg size) 0 i 0)) ⌝ }
+    ensures { λ r. ⌜ Wrote code at r (blanks (slotCode rust (LdReg size) 0 i 0)) ⌝ }
 {
     let src = register::map_register(i.src);
     let dst = register::map_register(i.dst);
@@ -75,7 +76,7 @@ pub fn emit_ld_reg(code: &mut [u8], at: Position, size: Size, i: Insn) -> Positi
 
 pub fn emit_st_imm(code: &mut [u8], at: Position, size: Size, i: Insn) -> Position
     requires { ⌜ Fits code at × (i .dst < 11) ⌝ }
-    ensures { λ r. ⌜ Wrote code at r (blanks (slotCode (StImm size) 0 i 0)) ⌝ }
+    ensures { λ r. ⌜ Wrote code at r (blanks (slotCode rust (StImm size) 0 i 0)) ⌝ }
 {
     let dst = register::map_register(i.dst);
     memory::emit_store_imm32(code, at, size, dst, i.off, i.imm)
@@ -83,7 +84,7 @@ pub fn emit_st_imm(code: &mut [u8], at: Position, size: Size, i: Insn) -> Positi
 
 pub fn emit_st_reg(code: &mut [u8], at: Position, size: Size, i: Insn) -> Position
     requires { ⌜ Fits code at × ((i .dst < 11) × (i .src < 11)) ⌝ }
-    ensures { λ r. ⌜ Wrote code at r (blanks (slotCode (StReg size) 0 i 0)) ⌝ }
+    ensures { λ r. ⌜ Wrote code at r (blanks (slotCode rust (StReg size) 0 i 0)) ⌝ }
 {
     let src = register::map_register(i.src);
     let dst = register::map_register(i.dst);

@@ -3,13 +3,14 @@
 --   translationOf   which code, which tables or which refusal belong to what is asked      crates/jit/specs/Translation.antt
 --   kindsIn,        what each jump is, and which slot made it                              crates/jit/specs/JumpTables.antt
 --   makersIn
+--   Modes           what standard mode leaves as it is                                     crates/jit/specs/Modes.antt
 --   Translated,     how the answer and what was lent hold an outcome                       crates/jit_translate/specs/Translated.antt
 --   Named
 --   Machine         the processor: what an instruction does, what a run is                 crates/x86_machine/specs/Machine.antt
 --   Demand3         reading, landing, staying, the stack pointer, over that processor      crates/jit_safety/specs/Demand3.antt
 --
 -- `Promise` says the three demands of one call. `Theorem` says that every call keeps it, and that it can always be kept, in one way only.
--- proofs/Proved.antt proves `Theorem`; `ndakoleem_translate_2`, which a loader calls, has `Promise` in its contract and asks nothing.
+-- proofs/Proved.antt proves `Theorem`; `ndakoleem_translate_3`, which a loader calls, has `Promise` in its contract and asks nothing.
 -- That `translate` ends, and touches only what it was lent, Rattle proves of every function.
 use mathlib.Core.Path.{_≡_}
 use mathlib.Core.List.{List}
@@ -17,6 +18,7 @@ use Prim.Native.Nat.{ℕ, _+_}
 use lib.ListN.{take}
 use Rattle.jit.specs.declared.Refusal.{Refusal}
 use Rattle.jit.specs.Translation.{Inputs, slotsOf, no, translationOf}
+use Rattle.jit.specs.Modes.{Modes}
 use Rattle.x86_machine.specs.Machine.{State, Input, divided, run}
 use Rattle.jit_safety.specs.Demand3.{Given, Begins, Demand3}
 use Rattle.jit_translate.specs.Translated.{Translated, Named}
@@ -75,7 +77,7 @@ pub record Promise (x : Inputs) (before after : Buffers) (r : Answer) : Type 0 w
   pub division : NoDivisionFaults after r
 
 -- THE THEOREM. Its one premise is `Given`: the program's bytes are below 2 ^ 8 and the helpers' addresses below 2 ^ 64, which Rattle says
--- of every slice. Nothing else is asked: of the program, the flags, the helpers, the lengths or the contents of what is lent.
+-- of every slice. Nothing else is asked: of the program, the mode, the flags, the helpers, the lengths or the contents of what is lent.
 pub record Theorem : Type 0 where
   -- whatever `translate`'s contract admits keeps the promise
   pub kept : (x : Inputs) → Given x → (before after : Buffers) (r : Answer) → Translates x before after r → Names x before after
@@ -85,3 +87,5 @@ pub record Theorem : Type 0 where
   -- .. and one only
   pub only : (x : Inputs) (before after other : Buffers) (r s : Answer) → Promise x before after r → Promise x before other s
       → (r ≡ s) × (after ≡ other)
+  -- the mode changes the code of three kinds of slots, and a program without them has the Rust's answer in both
+  pub modes : Modes

@@ -4,6 +4,7 @@ use lib.ListN.{length}
 use denote.Ref.{now}
 use Rattle.base.specs.Lent.{Slice, Lent}
 use Rattle.jit.specs.declared.Flags.{Flags}
+use Rattle.jit.specs.declared.Mode.{Mode}
 use Rattle.jit.specs.Translation.{Filter, Inputs, translationOf}
 use Rattle.jit.specs.Lent.{filterIn}
 use Rattle.jit_translate.specs.declared.translate.Answer.{Answer}
@@ -23,14 +24,14 @@ sized filter flags page locations fields targets kinds makers =
       makers = makers;
     }
 
-abbrev pub inputs : Slice → Flags → (ids addresses code locations fields targets kinds makers : Slice) → Inputs
-inputs prog flags ids addresses code locations fields targets kinds makers =
-    sized (filterIn prog ids addresses) flags
+abbrev pub inputs : Slice → Flags → Mode → (ids addresses code locations fields targets kinds makers : Slice) → Inputs
+inputs prog flags mode ids addresses code locations fields targets kinds makers =
+    sized (filterIn prog mode ids addresses) flags
     (length (now code)) (length (now locations)) (length (now fields)) (length (now targets)) (length (now kinds)) (length (now makers))
 
-abbrev pub asked : Lent → Flags → (ids addresses code locations fields targets kinds makers : Lent) → Inputs
-asked prog flags ids addresses code locations fields targets kinds makers =
-    inputs (prog .entry) flags (ids .entry) (addresses .entry)
+abbrev pub asked : Lent → Flags → Mode → (ids addresses code locations fields targets kinds makers : Lent) → Inputs
+asked prog flags mode ids addresses code locations fields targets kinds makers =
+    inputs (prog .entry) flags mode (ids .entry) (addresses .entry)
     (code .entry) (locations .entry) (fields .entry) (targets .entry) (kinds .entry) (makers .entry)
 
 -- THE CONTRACT: the answer and the contents at exit are what `translationOf` gives on what is asked.

@@ -1,4 +1,4 @@
-// The one function that a user calls: every program, pair of flags, helper lists and set of lent buffers gets finished code or one refusal.
+// The one function that a user calls: every program, mode, pair of flags, helper lists and set of lent buffers gets finished code or one refusal.
 // It is `decide`, which writes nothing, and then `write_page`, which refuses nothing.
 ghost use mathlib.Core.Path.{_≡_};
 ghost use Prim.Native.Nat.{_≤_};
@@ -15,6 +15,7 @@ use base::Position;
 use base::Slot;
 use ebpf::kind;
 use jit::Flags;
+use jit::Mode;
 use jit::Refusal;
 use jit_judging::judge;
 use jit_judging::sizes;
@@ -43,6 +44,7 @@ fn decide_in(
     numbers: &[u8; 256],
     prog: &[u8],
     flags: Flags,
+    mode: Mode,
     ids: &[u32],
     addresses: &[u64],
     page: usize,
@@ -53,7 +55,7 @@ fn decide_in(
     makers: usize,
 ) -> Verdict
     requires { ⌜ IsTable numbers ⌝ }
-    ensures { λ r. ⌜ Decided (sized (filterOf prog ids addresses) flags page locations fields targets kinds makers) r ⌝ }
+    ensures { λ r. ⌜ Decided (sized (filterOf prog mode ids addresses) flags page locations fields targets kinds makers) r ⌝ }
 {
     match sizes::sizes(
         prog.len(),
@@ -71,7 +73,7 @@ fn decide_in(
             let start = Position {
                 offset: prologue_size(flags),
             };
-            judge::judge(numbers, prog, ids, addresses, page, start)
+            judge::judge(numbers, prog, mode, ids, addresses, page, start)
         }
     }
 }
@@ -80,6 +82,7 @@ fn decide_in(
 pub fn decide(
     prog: &[u8],
     flags: Flags,
+    mode: Mode,
     ids: &[u32],
     addresses: &[u64],
     page: usize,
@@ -89,13 +92,14 @@ pub fn decide(
     kinds: usize,
     makers: usize,
 ) -> Verdict
-    ensures { λ r. ⌜ Decided (sized (filterOf prog ids addresses) flags page locations fields targets kinds makers) r ⌝ }
+    ensures { λ r. ⌜ Decided (sized (filterOf prog mode ids addresses) flags page locations fields targets kinds makers) r ⌝ }
 {
     let numbers = kind::KINDS;
     decide_in(
         &numbers,
         prog,
         flags,
+        mode,
         ids,
         addresses,
         page,
@@ -112,6 +116,7 @@ fn write_begin(
     numbers: &[u8; 256],
     prog: &[u8],
     flags: Flags,
+    mode: Mode,
     ids: &[u32],
     addresses: &[u64],
     code: &mut [u8],
@@ -122,8 +127,8 @@ fn write_begin(
     makers: &mut [u32],
 ) -> Emission
     requires { ⌜ IsTable numbers ⌝ }
-    requires { ⌜ Decided (inputs prog flags ids addresses code locations fields targets kinds makers) Good ⌝ }
-    ensures { λ r. ⌜ Begun (asked prog flags ids addresses code locations fields targets kinds makers) code locations fields targets kinds makers r ⌝ }
+    requires { ⌜ Decided (inputs prog flags mode ids addresses code locations fields targets kinds makers) Good ⌝ }
+    ensures { λ r. ⌜ Begun (asked prog flags mode ids addresses code locations fields targets kinds makers) code locations fields targets kinds makers r ⌝ }
 {
     let page = code.len();
     let n = Slot {
@@ -133,6 +138,7 @@ fn write_begin(
     jit_writing::write::write_slots(
         numbers,
         prog,
+        mode,
         ids,
         addresses,
         page,
@@ -170,6 +176,7 @@ pub fn write_page(
     numbers: &[u8; 256],
     prog: &[u8],
     flags: Flags,
+    mode: Mode,
     ids: &[u32],
     addresses: &[u64],
     code: &mut [u8],
@@ -180,9 +187,9 @@ pub fn write_page(
     makers: &mut [u32],
 ) -> Answer
     requires { ⌜ IsTable numbers ⌝ }
-    requires { ⌜ Decided (inputs prog flags ids addresses code locations fields targets kinds makers) Good ⌝ }
-    ensures { λ r. ⌜ Translated (asked prog flags ids addresses code locations fields targets kinds makers) code locations fields targets r ⌝ }
-    ensures { λ _. ⌜ Named (asked prog flags ids addresses code locations fields targets kinds makers) kinds makers ⌝ }
+    requires { ⌜ Decided (inputs prog flags mode ids addresses code locations fields targets kinds makers) Good ⌝ }
+    ensures { λ r. ⌜ Translated (asked prog flags mode ids addresses code locations fields targets kinds makers) code locations fields targets r ⌝ }
+    ensures { λ _. ⌜ Named (asked prog flags mode ids addresses code locations fields targets kinds makers) kinds makers ⌝ }
 {
     let n = Slot {
         number: prog.len() / 8,
@@ -191,6 +198,7 @@ pub fn write_page(
         numbers,
         prog,
         flags,
+        mode,
         ids,
         addresses,
         code,
@@ -214,6 +222,7 @@ pub fn write_page(
 pub fn translate(
     prog: &[u8],
     flags: Flags,
+    mode: Mode,
     ids: &[u32],
     addresses: &[u64],
     code: &mut [u8],
@@ -223,14 +232,15 @@ pub fn translate(
     kinds: &mut [u32],
     makers: &mut [u32],
 ) -> Answer
-    ensures { λ r. ⌜ Translated (asked prog flags ids addresses code locations fields targets kinds makers) code locations fields targets r ⌝ }
-    ensures { λ _. ⌜ Named (asked prog flags ids addresses code locations fields targets kinds makers) kinds makers ⌝ }
+    ensures { λ r. ⌜ Translated (asked prog flags mode ids addresses code locations fields targets kinds makers) code locations fields targets r ⌝ }
+    ensures { λ _. ⌜ Named (asked prog flags mode ids addresses code locations fields targets kinds makers) kinds makers ⌝ }
 {
     let numbers = kind::KINDS;
     match decide_in(
         &numbers,
         prog,
         flags,
+        mode,
         ids,
         addresses,
         code.len(),
@@ -245,6 +255,7 @@ pub fn translate(
             &numbers,
             prog,
             flags,
+            mode,
             ids,
             addresses,
             code,

@@ -14,7 +14,7 @@ use Rattle.base.specs.Pick.{pick}
 use Rattle.ebpf.specs.Insn.{insnAt, readAt}
 use Rattle.ebpf.specs.Opcode.{kindOf}
 use Rattle.ebpf.specs.Kinds.{numbers, numberOf, numbered}
-use Rattle.ebpf.specs.Kinds.{LD-DW-IMM, MULDIVMOD, BE, JA, JUMP, CALL, LD-ABS, LD-IND, LD-REG, ST-IMM, ST-REG, ALU, SHIFT, NEG, MOV, EXIT}
+use Rattle.ebpf.specs.Kinds.{LD-DW-IMM, MULDIVMOD, LE, BE, JA, JUMP, CALL, LD-ABS, LD-IND, LD-REG, ST-IMM, ST-REG, ALU, SHIFT, NEG, MOV, EXIT}
 use Rattle.ebpf.proofs.KindsLaws.{number-at}
 use Rattle.ebpf.specs.declared.insn.Insn.{Insn}
 use Rattle.ebpf.specs.declared.insn.Read.{Read}
@@ -26,8 +26,9 @@ use Rattle.ebpf.specs.declared.kind.Lookup.{Lookup}
 use Rattle.ebpf.specs.declared.kind.Lookup.the-variants.{Known, Unimplemented, Unknown}
 use Rattle.x86.specs.Code.{targetsOf}
 use Rattle.jit.specs.Slots.{regOf, slotCode}
-use Rattle.jit.proofs.SlotSize.{swap-jumps}
+use Rattle.jit.proofs.SlotSize.{swap-jumps, truncated-jumps}
 use Rattle.jit.specs.Translation.{Filter, at, Block, blockOf, wideKind, Operand, lacks, has, Step, stop, go, taken, known, stepRead, stepAt}
+use Rattle.jit.specs.declared.Mode.{Mode}
 use Rattle.jit.specs.declared.Refusal.{Refusal}
 use Rattle.jit.proofs.NoTargets.{alu-none, shift-none, mov-none}
 use Rattle.base.proofs.Lists.{empty}
@@ -46,10 +47,10 @@ elsewhere = CALL ⇒ true ∷ JUMP ⇒ true ∷ JA ⇒ true ∷ MULDIVMOD ⇒ tr
 pub other : {number : ℕ} → None elsewhere number → Others number
 other none = record { wide = none .0 .0 .0 .0 .1; divides = none .0 .0 .0 .1; ja = none .0 .0 .1; jumps = none .0 .1; calls = none .1 }
 
-module _ (ids addresses : List ℕ) (slot : ℕ) (i : Insn) (next : Read) where
+module _ (filter : Filter) (slot : ℕ) (i : Insn) (next : Read) where
   pub record Agrees (l : Lookup) : Type 0 where
-    pub same : plainCode l i ≡ lookedUp ids addresses l slot i next
-    pub none : targetsOf (plainCode l i) ≡ []
+    pub same : plainCode (filter .mode) l i ≡ lookedUp filter l slot i next
+    pub none : targetsOf (plainCode (filter .mode) l i) ≡ []
 
   plainly : (k : Kind) → Others (numberOf (Known k)) → Agrees (Known k)
   plainly (LdAbs z) h = record { same = refl; none = refl }
@@ -62,8 +63,8 @@ module _ (ids addresses : List ℕ) (slot : ℕ) (i : Insn) (next : Read) where
   plainly (Shift o w s) h = record { same = refl; none = shift-none o w s i }
   plainly (Neg w) h = record { same = refl; none = refl }
   plainly (MulDivMod o w s) h = absurd (h .divides refl)
-  plainly (Mov w s) h = record { same = refl; none = mov-none w s i }
-  plainly Le h = record { same = refl; none = refl }
+  plainly (Mov w s) h = record { same = refl; none = mov-none (filter .mode) w s i }
+  plainly Le h = record { same = refl; none = empty _ (truncated-jumps (filter .mode) (regOf (i .dst)) (i .imm)) }
   plainly Be h = record { same = refl; none = empty _ (swap-jumps (regOf (i .dst)) (i .imm)) }
   plainly Ja h = absurd (h .ja refl)
   plainly (Jump c w s) h = absurd (h .jumps refl)
@@ -82,6 +83,7 @@ module _ (ids addresses : List ℕ) (slot : ℕ) (i : Insn) (next : Read) where
 abbrev pub coded : List (Arm Bool)
 coded =
     EXIT ⇒ true
+    ∷ LE ⇒ true
     ∷ BE ⇒ true
     ∷ MOV ⇒ true
     ∷ NEG ⇒ true
@@ -94,13 +96,13 @@ coded =
     ∷ LD-ABS ⇒ true
     ∷ []
 
-pub no-code : {number : ℕ} {i : Insn} → Numbered number i → Others number → None coded number → plainCode (kindOf (i .opc)) i ≡ []
-no-code {number} {i} is h none = by (kindOf (i .opc)) (is .table ∙ number-at (i .opc) (is .opc))
+pub no-code : (m : Mode) {number : ℕ} {i : Insn} → Numbered number i → Others number → None coded number → plainCode m (kindOf (i .opc)) i ≡ []
+no-code m {number} {i} is h none = by (kindOf (i .opc)) (is .table ∙ number-at (i .opc) (is .opc))
   where
     not : {n : ℕ} {A : Type 0} → number ≡ n → cases coded false n ≡ true → A
     not q e = let z : _≡_ {A = ℕ} 0 1 = cc (rest coded false number none) in absurd (omega arith)
 
-    by : (l : Lookup) → number ≡ numberOf l → plainCode l i ≡ []
+    by : (l : Lookup) → number ≡ numberOf l → plainCode m l i ≡ []
     by Unknown q = refl
     by Unimplemented q = refl
     by (Known (LdAbs z)) q = not q refl
@@ -114,7 +116,7 @@ no-code {number} {i} is h none = by (kindOf (i .opc)) (is .table ∙ number-at (
     by (Known (Neg w)) q = not q refl
     by (Known (MulDivMod o w s)) q = absurd (h .divides q)
     by (Known (Mov w s)) q = not q refl
-    by (Known Le) q = refl
+    by (Known Le) q = not q refl
     by (Known Be) q = not q refl
     by (Known Ja) q = absurd (h .ja q)
     by (Known (Jump c w s)) q = absurd (h .jumps q)
@@ -162,14 +164,14 @@ module _ (filter : Filter) (slot : ℕ) (b : Block) where
   abbrev next : Read
   next = readAt (filter .program) (slot + 1)
 
-  taken-is : (k : Kind) (o : Operand) → operandIn filter k slot i ≡ o → go b ≡ taken k slot i o
-      → (b .code ≡ slotCode k slot i (valueIn (operandIn filter k slot i))) × (b .wide ≡ wideKind k)
+  taken-is : (k : Kind) (o : Operand) → operandIn filter k slot i ≡ o → go b ≡ taken (filter .mode) k slot i o
+      → (b .code ≡ slotCode (filter .mode) k slot i (valueIn (operandIn filter k slot i))) × (b .wide ≡ wideKind k)
   taken-is k (lacks r) q e = not-stop e
   taken-is k (has v) q e =
-      let same : b ≡ blockOf k slot i v = ap (blockIn b) e in
+      let same : b ≡ blockOf (filter .mode) k slot i v = ap (blockIn b) e in
       rw (q, same) (refl, refl)
 
-  looked-up : (l : Lookup) → kindOf (i .opc) ≡ l → go b ≡ known (filter .ids) (filter .addresses) l slot i next
+  looked-up : (l : Lookup) → kindOf (i .opc) ≡ l → go b ≡ known filter l slot i next
       → (b .code ≡ codeAt filter slot i) × (i .opc < 256 → b .wide ≡ isWide (getD numbers (i .opc) 0))
   looked-up Unknown q e = not-stop e
   looked-up Unimplemented q e = not-stop e
@@ -178,7 +180,7 @@ module _ (filter : Filter) (slot : ℕ) (b : Block) where
       (rw q (t .0), λ h. t .1 ∙ wide-number k ∙ rw (number-at (i .opc) h, q))
 
   registers : (x y : Bool) → leb (i .dst) 10 ≡ x → leb (i .src) 10 ≡ y → 8 * slot + 8 ≤ length (filter .program)
-      → go b ≡ pick (x && y) (known (filter .ids) (filter .addresses) (kindOf (i .opc)) slot i next) (stop (Refusal.BadRegister (at slot)))
+      → go b ≡ pick (x && y) (known filter (kindOf (i .opc)) slot i next) (stop (Refusal.BadRegister (at slot)))
       → Written filter slot b
   registers true true f g h e =
       let l = looked-up (kindOf (i .opc)) refl e in
@@ -191,7 +193,7 @@ module _ (filter : Filter) (slot : ℕ) (b : Block) where
   written e = by (ltb (length (filter .program)) (8 * slot + 8)) refl e
     where
       by : (t : Bool) → ltb (length (filter .program)) (8 * slot + 8) ≡ t
-          → go b ≡ stepRead (filter .ids) (filter .addresses) slot (pick t Torn (Whole i)) next
+          → go b ≡ stepRead filter slot (pick t Torn (Whole i)) next
           → Written filter slot b
       by true q e = not-stop e
       by false q e = registers (leb (i .dst) 10) (leb (i .src) 10) refl refl (ltb-false (length (filter .program)) (8 * slot + 8) q) e

@@ -13,6 +13,7 @@ use Rattle.ebpf.specs.declared.insn.Insn.{Insn}
 use Rattle.ebpf.specs.declared.insn.Read.{Read}
 use Rattle.ebpf.specs.declared.kind.Lookup.{Lookup}
 use Rattle.ebpf.specs.declared.kind.Lookup.the-variants.{Known, Unimplemented, Unknown}
+use Rattle.jit.specs.declared.Mode.{Mode}
 use Rattle.jit.specs.MulDivMod.{Code}
 use Rattle.jit.specs.Slots.{slotCode}
 use Rattle.jit.specs.Translation.{Filter, Operand, lacks, has, operandOf}
@@ -23,20 +24,20 @@ valueIn (lacks r) = 0
 valueIn (has value) = value
 
 -- the code of what an opcode is looked up as; what is not translated has none
-abbrev pub lookedUp : (ids addresses : List ℕ) → Lookup → (slot : ℕ) → Insn → (next : Read) → Code
-lookedUp ids addresses Unknown slot i next = []
-lookedUp ids addresses Unimplemented slot i next = []
-lookedUp ids addresses (Known k) slot i next = slotCode k slot i (valueIn (operandOf ids addresses k slot i next))
+abbrev pub lookedUp : Filter → Lookup → (slot : ℕ) → Insn → (next : Read) → Code
+lookedUp filter Unknown slot i next = []
+lookedUp filter Unimplemented slot i next = []
+lookedUp filter (Known k) slot i next = slotCode (filter .mode) k slot i (valueIn (operandOf filter k slot i next))
 
 -- the code of a slot of the filter, read as i
 abbrev pub codeAt : (filter : Filter) → (slot : ℕ) → Insn → Code
-codeAt filter slot i = lookedUp (filter .ids) (filter .addresses) (kindOf (i .opc)) slot i (readAt (filter .program) (slot + 1))
+codeAt filter slot i = lookedUp filter (kindOf (i .opc)) slot i (readAt (filter .program) (slot + 1))
 
 -- the code of the kinds that take nothing from elsewhere and list no jump
-abbrev pub plainCode : Lookup → Insn → Code
-plainCode Unknown i = []
-plainCode Unimplemented i = []
-plainCode (Known k) i = slotCode k 0 i 0
+abbrev pub plainCode : Mode → Lookup → Insn → Code
+plainCode m Unknown i = []
+plainCode m Unimplemented i = []
+plainCode m (Known k) i = slotCode m k 0 i 0
 
 -- the number is the opcode's entry in the table, and the registers are good
 pub record Numbered (number : ℕ) (i : Insn) : Type 0 where

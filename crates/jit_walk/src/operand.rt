@@ -2,7 +2,7 @@
 ghost use mathlib.Core.Path.{_≡_};
 ghost use Prim.Native.Nat.{_<_, _^_};
 ghost use Rattle.jit.specs.Passes.{Paired};
-ghost use Rattle.jit.specs.Translation.{swapBits, wideValue};
+ghost use Rattle.jit.specs.Translation.{swapBits, leBits, wideValue};
 ghost use Rattle.jit_walk.specs.Operands.{operandIs};
 ghost use Rattle.jit_walk.specs.Lent.{helperOf, callValue, readBehind};
 use base::Slot;
@@ -10,6 +10,7 @@ use ebpf::insn;
 use ebpf::insn::Insn;
 use ebpf::insn::Read;
 use jit::Helper;
+use jit::Mode;
 use jit::Refusal;
 
 pub enum Operand {
@@ -42,6 +43,16 @@ pub fn swap_bits(bits: u32) -> bool
         return true;
     }
     bits == 64
+}
+
+// LE: the Rust takes every width.
+pub fn le_bits(mode: Mode, bits: u32) -> bool
+    ensures { λ r. ⌜ r ≡ leBits mode bits ⌝ }
+{
+    if mode.standard {
+        return swap_bits(bits);
+    }
+    true
 }
 
 // A wide load's constant: its own immediate below the next slot's.

@@ -8,6 +8,7 @@ use Rattle.base.specs.declared.Slot.{Slot}
 use Rattle.ebpf.specs.Insn.{insnAt}
 use Rattle.ebpf.specs.Opcode.{kindOf}
 use Rattle.ebpf.specs.declared.insn.Insn.{Insn}
+use Rattle.jit.specs.declared.Mode.{Mode}
 use Rattle.jit.specs.Passes.{walked}
 use Rattle.jit.specs.MulDivMod.{Code}
 use Rattle.jit.specs.Translation.{Filter, slotsOf}
@@ -22,8 +23,8 @@ abbrev pub codeAt : Filter → Slot → Code
 codeAt filter slot = N.codeAt filter (slot .number) (insnAt (filter .program) (slot .number))
 
 -- .. of a kind that takes nothing from elsewhere and lists no jump
-abbrev pub plainCode : Insn → Code
-plainCode i = N.plainCode (kindOf (i .opc)) i
+abbrev pub plainCode : Mode → Insn → Code
+plainCode mode i = N.plainCode mode (kindOf (i .opc)) i
 
 -- the entries ys stand in `locations` from that slot's on, and r is the slot behind them
 abbrev pub Put : (locations : Lent) → (slot r : Slot) → List ℕ → Type 0

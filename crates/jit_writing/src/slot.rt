@@ -19,6 +19,7 @@ use ebpf::kind::mul_of;
 use ebpf::kind::size_of;
 use ebpf::kind::source_of;
 use ebpf::kind::width_of;
+use jit::Mode;
 use jit_dividing::muldivmod;
 use jit_recording::emission;
 use jit_recording::emission::Emission;
@@ -38,19 +39,20 @@ fn value_in(operand: Operand) -> u64
     }
 }
 
-// The kinds that take nothing from elsewhere and list no jump. LE, which has no code, is among the rest. An arm reads the slot's fields itself,
-// so that none is read that it has no use for.
+// The kinds that take nothing from elsewhere and list no jump. An arm reads the slot's fields itself, so that none is read that it has no use
+// for.
 fn emit_plain(
     code: &mut [u8],
     at: Position,
+    mode: Mode,
     number: u8,
     opc: u8,
     prog: &[u8],
     slot: Slot,
 ) -> Position
     requires { ⌜ SlotRead prog slot opc number × Others number ⌝ }
-    requires { ⌜ FitAll code at (plainCode (insnIn prog slot)) ⌝ }
-    ensures { λ r. ⌜ Wrote code at r (blanks (plainCode (insnOf prog slot))) ⌝ }
+    requires { ⌜ FitAll code at (plainCode mode (insnIn prog slot)) ⌝ }
+    ensures { λ r. ⌜ Wrote code at r (blanks (plainCode mode (insnOf prog slot))) ⌝ }
 {
     match number {
         kind::KIND_LD_ABS => load::emit_ld_abs(code, at, size_of(opc), insn_at(prog, slot)),
@@ -76,11 +78,13 @@ fn emit_plain(
         kind::KIND_MOV => alu::emit_mov(
             code,
             at,
+            mode,
             width_of(opc),
             source_of(opc),
             insn_at(prog, slot),
         ),
         kind::KIND_BE => alu::emit_be(code, at, insn_at(prog, slot)),
+        kind::KIND_LE => alu::emit_le(code, at, mode, insn_at(prog, slot)),
         kind::KIND_EXIT => x86_emit::jump::emit_ret(code, at),
         _ => at,
     }
@@ -94,6 +98,7 @@ pub fn emit_slot(
     kinds: &mut [u32],
     makers: &mut [u32],
     e: Emission,
+    mode: Mode,
     number: u8,
     slot: Slot,
     opc: u8,
@@ -102,8 +107,8 @@ pub fn emit_slot(
     addresses: &[u64],
 ) -> Emission
     requires { ⌜ SlotRead prog slot opc number × ((slot .number < 2 ^ 16) × Paired ids addresses) ⌝ }
-    requires { ⌜ Room code fields targets kinds makers e (codeAt (filterIn prog ids addresses) slot) ⌝ }
-    ensures { λ r. ⌜ Emits code fields targets kinds makers e r slot (codeAt (filterOf prog ids addresses) slot) ⌝ }
+    requires { ⌜ Room code fields targets kinds makers e (codeAt (filterIn prog mode ids addresses) slot) ⌝ }
+    ensures { λ r. ⌜ Emits code fields targets kinds makers e r slot (codeAt (filterOf prog mode ids addresses) slot) ⌝ }
 {
     match number {
         kind::KIND_LD_DW_IMM => {
@@ -118,6 +123,7 @@ pub fn emit_slot(
             kinds,
             makers,
             e,
+            mode,
             mul_of(opc),
             width_of(opc),
             source_of(opc),
@@ -151,6 +157,6 @@ pub fn emit_slot(
             let value = value_in(operand::call_operand(ids, addresses, slot, i));
             jump::emit_call(code, fields, targets, kinds, makers, e, slot, i, value)
         }
-        _ => emission::onward(e, emit_plain(code, e.at, number, opc, prog, slot)),
+        _ => emission::onward(e, emit_plain(code, e.at, mode, number, opc, prog, slot)),
     }
 }

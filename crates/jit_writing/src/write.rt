@@ -13,6 +13,7 @@ use base::Position;
 use base::Slot;
 use ebpf::constants::INSN_SIZE;
 use ebpf::kind;
+use jit::Mode;
 use jit_recording::emission::Emission;
 
 // A slot's location entries: its place, and 0 for a second half, which LD_DW_IMM alone has. The answer is the next slot.
@@ -33,6 +34,7 @@ fn put_slot(locations: &mut [u32], slot: Slot, at: Position, number: u8) -> Slot
 pub fn write_slots(
     numbers: &[u8; 256],
     prog: &[u8],
+    mode: Mode,
     ids: &[u32],
     addresses: &[u64],
     page: usize,
@@ -45,8 +47,8 @@ pub fn write_slots(
     makers: &mut [u32],
 ) -> Emission
     requires { ⌜ IsTable numbers × WithinLimits prog ids addresses page start ⌝ }
-    requires { ⌜ Fitting (filterIn prog ids addresses) page start code locations fields targets kinds makers ⌝ }
-    ensures { λ r. ⌜ Writes (filterOf prog ids addresses) page start code locations fields targets kinds makers r ⌝ }
+    requires { ⌜ Fitting (filterIn prog mode ids addresses) page start code locations fields targets kinds makers ⌝ }
+    ensures { λ r. ⌜ Writes (filterOf prog mode ids addresses) page start code locations fields targets kinds makers r ⌝ }
 {
     let mut next = Slot { number: 0 };
     let mut e = Emission {
@@ -64,6 +66,7 @@ pub fn write_slots(
             kinds,
             makers,
             e,
+            mode,
             number,
             next,
             opc,

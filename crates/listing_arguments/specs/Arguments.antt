@@ -12,7 +12,7 @@ use Rattle.listing_arguments.specs.declared.Number.the-variants.{Is, Not
 use Rattle.listing_arguments.specs.declared.Helper.{Helper}
 use Rattle.listing_arguments.specs.declared.Helper.the-variants.{Listed, Unclear}
 use Rattle.listing_arguments.specs.declared.Word.{Word}
-use Rattle.listing_arguments.specs.declared.Word.the-variants.{Mbuff, UpdateDataPtr, PageSize, HelperNext, Help, File, Unknown}
+use Rattle.listing_arguments.specs.declared.Word.the-variants.{Mbuff, UpdateDataPtr, Standard, PageSize, HelperNext, Help, File, Unknown}
 
 -- whether two texts are the same
 abbrev pub equal : List ℕ → List ℕ → Bool
@@ -26,8 +26,9 @@ unfoldable pub wordOf : List ℕ → Word
 wordOf w =
     pick (equal w (ascii "--mbuff")) Mbuff
     (pick (equal w (ascii "--update-data-ptr")) UpdateDataPtr
+    (pick (equal w (ascii "--standard")) Standard
     (pick (equal w (ascii "--page")) PageSize
-    (pick (equal w (ascii "--helper")) HelperNext (pick (equal w (ascii "--help")) Help (pick (eqb (getD w 0 0x2d) 0x2d) Unknown File)))))
+    (pick (equal w (ascii "--helper")) HelperNext (pick (equal w (ascii "--help")) Help (pick (eqb (getD w 0 0x2d) 0x2d) Unknown File))))))
 
 -- what a character counts as a digit, `0` to `9`, `A` to `F` and `a` to `f`; 16 where it is none
 unfoldable pub digitOf : ℕ → ℕ

@@ -9,6 +9,7 @@ ghost use Rattle.listing_arguments.specs.Arguments.{grown as Arguments·
 pub enum Word {
     Mbuff,
     UpdateDataPtr,
+    Standard,
     // The page's size is the next word.
     PageSize,
     // A helper is the next word.
@@ -47,6 +48,9 @@ pub fn word_of(word: &[u8]) -> Word
     }
     if is(word, b"--update-data-ptr") {
         return Word::UpdateDataPtr;
+    }
+    if is(word, b"--standard") {
+        return Word::Standard;
     }
     if is(word, b"--page") {
         return Word::PageSize;

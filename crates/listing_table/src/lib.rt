@@ -7,6 +7,7 @@ mod table;
 
 use jit::EPILOGUE_SIZE;
 use jit::Flags;
+use jit::Mode;
 use jit::Refusal;
 use jit_translate::translate::Answer;
 use jit_translate::translate::translate;
@@ -62,6 +63,7 @@ fn list_accepted(
 pub fn list_filter(
     prog: &[u8],
     flags: Flags,
+    mode: Mode,
     ids: &[u32],
     addresses: &[u64],
     page: &mut [u8],
@@ -72,12 +74,13 @@ pub fn list_filter(
     makers: &mut [u32],
     reason: i32,
 ) -> Answer
-    ensures { λ r. ⌜ Translated (asked prog flags ids addresses page locations fields targets kinds makers) page locations fields targets r ⌝ }
-    ensures { λ _. ⌜ Named (asked prog flags ids addresses page locations fields targets kinds makers) kinds makers ⌝ }
+    ensures { λ r. ⌜ Translated (asked prog flags mode ids addresses page locations fields targets kinds makers) page locations fields targets r ⌝ }
+    ensures { λ _. ⌜ Named (asked prog flags mode ids addresses page locations fields targets kinds makers) kinds makers ⌝ }
 {
     let answer = translate(
         prog,
         flags,
+        mode,
         ids,
         addresses,
         page,

@@ -1,7 +1,8 @@
--- The contract of `ndakoleem_translate_2`, of its parameters by their names (base/specs/Lent.antt).
+-- The contract of `ndakoleem_translate_3`, of its parameters by their names (base/specs/Lent.antt).
 use mathlib.Core.Bool.{Bool}
 use Rattle.base.specs.Lent.{Lent}
 use Rattle.jit.specs.declared.Flags.{Flags}
+use Rattle.jit.specs.declared.Mode.{Mode}
 use Rattle.jit.specs.Translation.{Inputs}
 use Rattle.jit_theorem.specs.Lent.{buffers}
 use Rattle.ndakoleem.specs.declared.Translation.{Translation}
@@ -9,6 +10,9 @@ use Rattle.ndakoleem.specs.Exported as E
 
 abbrev pub flagged : (mbuff update : Bool) → Flags
 flagged mbuff update = record { «use_mbuff» = mbuff; «update_data_ptr» = update }
+
+abbrev pub inMode : (standard : Bool) → Mode
+inMode standard = record { standard = standard }
 
 abbrev pub Exported : Inputs → (code locations fields targets kinds makers : Lent) → Translation → Type 0
 Exported x code locations fields targets kinds makers r =

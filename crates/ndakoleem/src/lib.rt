@@ -1,9 +1,10 @@
 // The translator and the sentences as C sees them: the library that `rt staticlib ndakoleem` writes. It only hands on what it is given and
 // puts the answer into a struct of four numbers, since an enum does not pass the boundary. The declarations for C are include/ndakoleem.h.
 ghost use Rattle.jit_translate.specs.Lent.{asked};
-ghost use Rattle.ndakoleem.specs.Lent.{flagged, Exported};
+ghost use Rattle.ndakoleem.specs.Lent.{flagged, inMode, Exported};
 ghost use Rattle.refusals_text.specs.Lent.{Sentence};
 use jit::Flags;
+use jit::Mode;
 use jit_translate::translate::Answer;
 use jit_translate::translate::translate;
 
@@ -19,10 +20,11 @@ pub struct Translation {
 // The four numbers of `translate`'s answer; what is lent is left as `translate` leaves it (specs/Exported.antt). The number in the name rises
 // with every change of the parameters: a caller that was built for others does not link.
 #[no_mangle]
-pub extern "C" fn ndakoleem_translate_2(
+pub extern "C" fn ndakoleem_translate_3(
     program: &[u8],
     use_mbuff: bool,
     update_data_ptr: bool,
+    standard: bool,
     ids: &[u32],
     addresses: &[u64],
     code: &mut [u8],
@@ -32,16 +34,18 @@ pub extern "C" fn ndakoleem_translate_2(
     kinds: &mut [u32],
     makers: &mut [u32],
 ) -> Translation
-    ensures { λ r. ⌜ Exported (asked program (flagged «use_mbuff» «update_data_ptr») ids addresses code locations fields targets kinds makers)
-        code locations fields targets kinds makers r ⌝ }
+    ensures { λ r. ⌜ Exported (asked program (flagged «use_mbuff» «update_data_ptr») (inMode «standard») ids addresses
+        code locations fields targets kinds makers) code locations fields targets kinds makers r ⌝ }
 {
     let flags = Flags {
         use_mbuff: use_mbuff,
         update_data_ptr: update_data_ptr,
     };
+    let mode = Mode { standard: standard };
     match translate(
         program,
         flags,
+        mode,
         ids,
         addresses,
         code,

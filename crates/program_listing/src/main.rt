@@ -14,6 +14,7 @@ use jit::LONGEST_PAGE;
 use jit::LONGEST_PROGRAM;
 use jit::MOST_HELPERS;
 use jit::MOST_SLOTS;
+use jit::Mode;
 use jit::SHORTEST_PAGE;
 use libc::STDERR_FILENO;
 use libc::STDIN_FILENO;
@@ -50,6 +51,10 @@ fn explain() {
     io::write_all(
         STDOUT_FILENO,
         b"  --mbuff              the flag use_mbuff\n  --update-data-ptr    the flag update_data_ptr\n",
+    );
+    io::write_all(
+        STDOUT_FILENO,
+        b"  --standard           standard mode: MOV32_REG, MOD32 by zero and LE as in RFC 9669, all else as in rbpf\n",
     );
     say(
         b"  --page N             a page of N bytes, # to # (# unless said)\n",
@@ -122,6 +127,9 @@ fn list_lent(program: &[u8], options: Options, ids: &[u32], addresses: &[u64])
         use_mbuff: options.use_mbuff,
         update_data_ptr: options.update_data_ptr,
     };
+    let mode = Mode {
+        standard: options.standard,
+    };
     let size = options.page;
     let mut page = [0u8; LARGEST];
     let mut locations = [0u32; TABLE];
@@ -132,6 +140,7 @@ fn list_lent(program: &[u8], options: Options, ids: &[u32], addresses: &[u64])
     list_filter(
         program,
         flags,
+        mode,
         ids,
         addresses,
         &mut page[..size],

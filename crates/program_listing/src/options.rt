@@ -24,6 +24,7 @@ const WORD: usize = 32;
 pub struct Options {
     pub use_mbuff: bool,
     pub update_data_ptr: bool,
+    pub standard: bool,
     pub page: usize,
     // Which argument is the file's name; 0 where there is none.
     pub file: usize,
@@ -150,6 +151,10 @@ fn with_option(options: Options, index: usize, word: &[u8]) -> Options
             changed.update_data_ptr = true;
             changed
         }
+        Word::Standard => {
+            changed.standard = true;
+            changed
+        }
         Word::PageSize => {
             changed.page_next = true;
             changed
@@ -221,6 +226,7 @@ pub fn read_options(ids: &mut [u32], addresses: &mut [u64]) -> Options
     let mut options = Options {
         use_mbuff: false,
         update_data_ptr: false,
+        standard: false,
         page: SHORTEST_PAGE,
         file: 0,
         helpers: 0,

@@ -13,6 +13,7 @@ use cases_bytes::turn;
 use cases_bytes::turn::Turn;
 use cases_problems::Problem;
 use jit::Flags;
+use jit::Mode;
 use jit::Refusal;
 use jit_translate::translate::Answer;
 use libc::STDIN_FILENO;
@@ -68,6 +69,9 @@ fn show_case(body: &[u8], case: Case, ids: &[u32], addresses: &[u64])
         use_mbuff: case.use_mbuff,
         update_data_ptr: case.update_data_ptr,
     };
+    let mode = Mode {
+        standard: case.standard,
+    };
     let program = case.program;
     let i = case.ids;
     let a = case.addresses;
@@ -80,6 +84,7 @@ fn show_case(body: &[u8], case: Case, ids: &[u32], addresses: &[u64])
     let answer = list_filter(
         &body[program..],
         flags,
+        mode,
         &ids[..i],
         &addresses[..a],
         &mut page[..c],

@@ -1,11 +1,12 @@
 //! Tests of the oracle itself: the worked programs, the facts known of the Rust,
-//! the listed jumps, the order of the refusals, the streams, and the spread of
-//! the random cases.
+//! the listed jumps, the order of the refusals, standard mode, the streams, and
+//! the spread of the random cases.
 
 mod facts;
 mod jumps;
 mod order;
 mod spread;
+mod standard;
 mod streams;
 mod worked;
 
@@ -52,7 +53,12 @@ fn slot_code(page: &Translation, slot: usize) -> &[u8] {
 
 /// The code of a slot that stands alone, its jump fields emptied.
 fn code_alone(slot: [u8; 8]) -> Vec<u8> {
-    let mut page = accepted(&case_of(&[slot]));
+    first_code(&case_of(&[slot]))
+}
+
+/// The code of the first slot, its jump fields emptied.
+fn first_code(case: &Case) -> Vec<u8> {
+    let mut page = accepted(case);
     for field in &page.fields {
         page.code[*field as usize..*field as usize + 4].fill(0);
     }

@@ -1,8 +1,9 @@
 //! The random cases: the same for the same seed, and spread as they should be.
 
-use crate::ebpf;
-use crate::generate::Generator;
+use crate::ebpf::{self, LE, MOD32_IMM, MOD32_REG, MOV32_REG};
+use crate::generate::{Form, Generator};
 use crate::judge::Judge;
+use crate::standard::changes;
 use crate::stream::{Answer, Case};
 
 const SEED: u64 = 9;
@@ -49,9 +50,57 @@ fn every_second_case_has_five_tables() {
         let case = generator.case(SEED, at).expect("a case");
         assert_eq!(case.further_lens.is_some(), at % 2 == 1);
         // Nothing else depends on it.
-        let three = generator.of_three_tables(SEED, at).expect("a case");
+        let form = Form { five_tables: false, ..Form::of(at) };
+        let three = generator.formed(form, SEED, at).expect("a case");
         assert_eq!(three, Case { further_lens: None, ..case });
     }
+}
+
+#[test]
+fn every_third_case_is_in_standard_mode() {
+    let mut generator = Generator::new().expect("a generator");
+    for at in 0..200 {
+        let case = generator.case(SEED, at).expect("a case");
+        assert_eq!(case.standard, at % 3 == 2);
+        let form = Form { standard: false, ..Form::of(at) };
+        let other = generator.formed(form, SEED, at).expect("a case");
+        assert_eq!(other == case, !case.standard);
+    }
+}
+
+#[test]
+fn standard_mode_is_asked_about_every_slot_that_it_changes() {
+    let mut generator = Generator::new().expect("a generator");
+    let mut judge = Judge::new();
+    // Pages with a changed slot, and with one of each kind.
+    let (mut all, mut pages, mut kinds) = (0, 0, [0; 4]);
+    let (mut le_refused, mut page_ends) = (0, [0; 2]);
+    for at in (0..COUNT).filter(|at| Form::of(*at).standard) {
+        let case = generator.case(SEED, at).expect("a case");
+        all += 1;
+        match judge.answer(&case).expect("an answer") {
+            Answer::Accepted(page) => {
+                pages += changes(&case.program) as u64;
+                let slots = case.program.chunks(8).zip(&page.locations);
+                let slots: Vec<&[u8]> =
+                    slots.filter(|(_, location)| **location > 0).map(|(slot, _)| slot).collect();
+                for (count, opc) in kinds.iter_mut().zip([MOD32_REG, MOD32_IMM, MOV32_REG, LE]) {
+                    *count += slots.iter().any(|slot| slot[0] == opc && changes(slot)) as u64;
+                }
+            }
+            Answer::Refused { number: 10, slot } => {
+                le_refused += (case.program[8 * slot as usize] == LE) as u64
+            }
+            Answer::Refused { number: 13, slot } => {
+                page_ends[(slot < case.slots() as u32) as usize] += 1
+            }
+            Answer::Refused { .. } => {}
+        }
+    }
+    assert!(pages * 100 / all > 30, "{pages} of {all}");
+    assert!(kinds.iter().all(|count| count * 100 / all > 10), "{kinds:?} of {all}");
+    assert!(le_refused > 50, "{le_refused} of {all}");
+    assert!(page_ends.iter().all(|count| *count > 20), "{page_ends:?}");
 }
 
 #[test]
@@ -61,7 +110,8 @@ fn the_two_further_tables_are_short_in_every_way() {
     let mut short = [[0; 2]; 4];
     let [mut by_one, mut empty, mut ample] = [0; 3];
     for at in 0..COUNT {
-        let case = generator.of_five_tables(SEED, at).expect("a case");
+        let form = Form { five_tables: true, ..Form::of(at) };
+        let case = generator.formed(form, SEED, at).expect("a case");
         let entries = case.slots() as u32 + 1;
         let lens = case.further_lens.expect("five tables");
         let which = (lens[0] < entries) as usize | ((lens[1] < entries) as usize) << 1;

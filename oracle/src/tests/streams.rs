@@ -12,6 +12,7 @@ fn sample() -> Case {
     Case {
         use_mbuff: true,
         update_data_ptr: false,
+        standard: false,
         code_len: u32::MAX,
         table_lens: [1, 2, 3],
         further_lens: None,
@@ -23,6 +24,10 @@ fn sample() -> Case {
 
 fn sample_of_five() -> Case {
     Case { use_mbuff: false, further_lens: Some([0x0403_0201, u32::MAX]), ..sample() }
+}
+
+fn sample_of_none() -> Case {
+    Case { use_mbuff: false, ..sample() }
 }
 
 fn written(case: &Case) -> Vec<u8> {
@@ -168,20 +173,36 @@ fn parts_that_do_not_fill_the_length_are_malformed() {
 }
 
 #[test]
-fn bits_2_to_6_of_the_flags_are_malformed() {
+fn bits_3_to_6_of_the_flags_are_malformed() {
     for case in [sample(), sample_of_five()] {
         let good = written(&case);
-        for flags in (0..=u8::MAX).filter(|flags| flags & 0x7c != 0) {
+        for flags in (0..=u8::MAX).filter(|flags| flags & 0x78 != 0) {
             let mut stream = good.clone();
             stream[4] = flags;
             let said = complaint(&stream, 0);
-            assert_eq!(said, "case 0 is malformed: it has a flag other than bits 0, 1 and 7");
+            assert_eq!(said, "case 0 is malformed: it has a flag other than bits 0, 1, 2 and 7");
         }
-        for flags in 0..4 {
+        for flags in 0..8 {
             let mut stream = good.clone();
             stream[4] = stream[4] & 0x80 | flags;
             assert!(case_records(&stream[..]).next_case().is_ok());
         }
+    }
+}
+
+#[test]
+fn each_flag_has_its_bit() {
+    let flags = [
+        (0, sample_of_none()),
+        (1, Case { use_mbuff: true, ..sample_of_none() }),
+        (2, Case { update_data_ptr: true, ..sample_of_none() }),
+        (4, Case { standard: true, ..sample_of_none() }),
+        (0x87, Case { use_mbuff: true, update_data_ptr: true, standard: true, ..sample_of_five() }),
+    ];
+    for (byte, case) in flags {
+        let stream = written(&case);
+        assert_eq!(stream[4], byte);
+        assert_eq!(case_records(&stream[..]).next_case(), Ok(Some(case)));
     }
 }
 

@@ -54,16 +54,16 @@ is-requires-4 c κs = search needs
 returns-4 : tie.Need-returns-4
 unfolding wordOf
 returns-4 c =
-    let not-page = c .before .before .before in
-    let not-update = not-page .before .before .before in
+    let not-standard = c .before .before .before in
+    let not-update = not-standard .before .before .before in
     let not-mbuff = not-update .before .before .before in
     rw (
       ← not-mbuff .before .is .ensures,
       not-mbuff .if1 .left,
       ← not-update .before .is2 .ensures,
       not-update .if2 .left,
-      ← not-page .before .is3 .ensures,
-      not-page .if3 .left,
+      ← not-standard .before .is3 .ensures,
+      not-standard .if3 .left,
       ← c .before .is4 .ensures,
       c .if4 .taken,
     )
@@ -77,71 +77,79 @@ is-requires-5 c κs = search needs
 returns-5 : tie.Need-returns-5
 unfolding wordOf
 returns-5 c =
-    let not-helper = c .before .before .before in
-    let not-page = not-helper .before .before .before in
-    let not-update = not-page .before .before .before in
+    let not-page = c .before .before .before in
+    let not-standard = not-page .before .before .before in
+    let not-update = not-standard .before .before .before in
     let not-mbuff = not-update .before .before .before in
     rw (
       ← not-mbuff .before .is .ensures,
       not-mbuff .if1 .left,
       ← not-update .before .is2 .ensures,
       not-update .if2 .left,
-      ← not-page .before .is3 .ensures,
-      not-page .if3 .left,
-      ← not-helper .before .is4 .ensures,
-      not-helper .if4 .left,
+      ← not-standard .before .is3 .ensures,
+      not-standard .if3 .left,
+      ← not-page .before .is4 .ensures,
+      not-page .if4 .left,
       ← c .before .is5 .ensures,
       c .if5 .taken,
     )
 
+slice-aggregate-is-6 : tie.Need-slice-aggregate-is-6
+slice-aggregate-is-6 c = search needs
+
+is-requires-6 : tie.Need-is-requires-6
+is-requires-6 c κs = search needs
+
 returns-6 : tie.Need-returns-6
 unfolding wordOf
 returns-6 c =
-    let not-help = c .before in
-    let not-helper = not-help .before .before .before in
+    let not-helper = c .before .before .before in
     let not-page = not-helper .before .before .before in
-    let not-update = not-page .before .before .before in
+    let not-standard = not-page .before .before .before in
+    let not-update = not-standard .before .before .before in
     let not-mbuff = not-update .before .before .before in
     rw (
       ← not-mbuff .before .is .ensures,
       not-mbuff .if1 .left,
       ← not-update .before .is2 .ensures,
       not-update .if2 .left,
-      ← not-page .before .is3 .ensures,
-      not-page .if3 .left,
-      ← not-helper .before .is4 .ensures,
-      not-helper .if4 .left,
-      ← not-help .before .is5 .ensures,
-      not-help .if5 .left,
-      first-none _ (c .if6 .taken),
+      ← not-standard .before .is3 .ensures,
+      not-standard .if3 .left,
+      ← not-page .before .is4 .ensures,
+      not-page .if4 .left,
+      ← not-helper .before .is5 .ensures,
+      not-helper .if5 .left,
+      ← c .before .is6 .ensures,
+      c .if6 .taken,
     )
-
-shared-slice-read-if7 : tie.Need-shared-slice-read-if7
-shared-slice-read-if7 c = search needs
 
 returns-7 : tie.Need-returns-7
 unfolding wordOf
 returns-7 c =
-    let not-empty = c .before .before in
-    let not-help = not-empty .before in
+    let not-help = c .before in
     let not-helper = not-help .before .before .before in
     let not-page = not-helper .before .before .before in
-    let not-update = not-page .before .before .before in
+    let not-standard = not-page .before .before .before in
+    let not-update = not-standard .before .before .before in
     let not-mbuff = not-update .before .before .before in
     rw (
       ← not-mbuff .before .is .ensures,
       not-mbuff .if1 .left,
       ← not-update .before .is2 .ensures,
       not-update .if2 .left,
-      ← not-page .before .is3 .ensures,
-      not-page .if3 .left,
-      ← not-helper .before .is4 .ensures,
-      not-helper .if4 .left,
-      ← not-help .before .is5 .ensures,
-      not-help .if5 .left,
-      first-some _ 0 (not-empty .if6 .left),
-      eq-eqb _ _ (c .if7 .taken),
+      ← not-standard .before .is3 .ensures,
+      not-standard .if3 .left,
+      ← not-page .before .is4 .ensures,
+      not-page .if4 .left,
+      ← not-helper .before .is5 .ensures,
+      not-helper .if5 .left,
+      ← not-help .before .is6 .ensures,
+      not-help .if6 .left,
+      first-none _ (c .if7 .taken),
     )
+
+shared-slice-read-if8 : tie.Need-shared-slice-read-if8
+shared-slice-read-if8 c = search needs
 
 returns-8 : tie.Need-returns-8
 unfolding wordOf
@@ -150,21 +158,51 @@ returns-8 c =
     let not-help = not-empty .before in
     let not-helper = not-help .before .before .before in
     let not-page = not-helper .before .before .before in
-    let not-update = not-page .before .before .before in
+    let not-standard = not-page .before .before .before in
+    let not-update = not-standard .before .before .before in
     let not-mbuff = not-update .before .before .before in
     rw (
       ← not-mbuff .before .is .ensures,
       not-mbuff .if1 .left,
       ← not-update .before .is2 .ensures,
       not-update .if2 .left,
-      ← not-page .before .is3 .ensures,
-      not-page .if3 .left,
-      ← not-helper .before .is4 .ensures,
-      not-helper .if4 .left,
-      ← not-help .before .is5 .ensures,
-      not-help .if5 .left,
-      first-some _ 0 (not-empty .if6 .left),
-      ne-eqb _ _ (c .if7 .left),
+      ← not-standard .before .is3 .ensures,
+      not-standard .if3 .left,
+      ← not-page .before .is4 .ensures,
+      not-page .if4 .left,
+      ← not-helper .before .is5 .ensures,
+      not-helper .if5 .left,
+      ← not-help .before .is6 .ensures,
+      not-help .if6 .left,
+      first-some _ 0 (not-empty .if7 .left),
+      eq-eqb _ _ (c .if8 .taken),
+    )
+
+returns-9 : tie.Need-returns-9
+unfolding wordOf
+returns-9 c =
+    let not-empty = c .before .before in
+    let not-help = not-empty .before in
+    let not-helper = not-help .before .before .before in
+    let not-page = not-helper .before .before .before in
+    let not-standard = not-page .before .before .before in
+    let not-update = not-standard .before .before .before in
+    let not-mbuff = not-update .before .before .before in
+    rw (
+      ← not-mbuff .before .is .ensures,
+      not-mbuff .if1 .left,
+      ← not-update .before .is2 .ensures,
+      not-update .if2 .left,
+      ← not-standard .before .is3 .ensures,
+      not-standard .if3 .left,
+      ← not-page .before .is4 .ensures,
+      not-page .if4 .left,
+      ← not-helper .before .is5 .ensures,
+      not-helper .if5 .left,
+      ← not-help .before .is6 .ensures,
+      not-help .if6 .left,
+      first-some _ 0 (not-empty .if7 .left),
+      ne-eqb _ _ (c .if8 .left),
     )
 
 pub word-of-spec : {M : Type 1} → statement M
@@ -186,7 +224,10 @@ word-of-spec =
     slice-aggregate-is-5
     is-requires-5
     returns-5
+    slice-aggregate-is-6
+    is-requires-6
     returns-6
-    shared-slice-read-if7
     returns-7
-    returns-8)
+    shared-slice-read-if8
+    returns-8
+    returns-9)

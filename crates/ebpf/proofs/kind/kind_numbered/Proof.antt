@@ -80,40 +80,40 @@ returns-5 : tie.Need-returns-5
 returns-5 c = rw (c .match .keys5)
 
 returns-6 : tie.Need-returns-6
-returns-6 c = rw (c .before .before .before .match .keys6, c .source-of2 .ensures, c .before .width-of2 .ensures, c .before .before .condition-of .ensures)
+returns-6 c = rw (c .match .keys6)
 
 returns-7 : tie.Need-returns-7
-returns-7 c = rw (c .match .keys7)
+returns-7 c = rw (c .before .before .before .match .keys7, c .source-of2 .ensures, c .before .width-of2 .ensures, c .before .before .condition-of .ensures)
 
 returns-8 : tie.Need-returns-8
-returns-8 c = rw (c .before .match .keys8, c .size-of .ensures)
+returns-8 c = rw (c .match .keys8)
 
 returns-9 : tie.Need-returns-9
-returns-9 c = rw (c .before .match .keys9, c .size-of2 .ensures)
+returns-9 c = rw (c .before .match .keys9, c .size-of .ensures)
 
 returns-10 : tie.Need-returns-10
-returns-10 c = rw (c .before .match .keys10, c .size-of3 .ensures)
+returns-10 c = rw (c .before .match .keys10, c .size-of2 .ensures)
 
 returns-11 : tie.Need-returns-11
-returns-11 c = rw (c .before .match .keys11, c .size-of4 .ensures)
+returns-11 c = rw (c .before .match .keys11, c .size-of3 .ensures)
 
 returns-12 : tie.Need-returns-12
-returns-12 c = rw (c .before .match .keys12, c .size-of5 .ensures)
+returns-12 c = rw (c .before .match .keys12, c .size-of4 .ensures)
 
 returns-13 : tie.Need-returns-13
-returns-13 c = rw (c .before .before .before .match .keys13, c .source-of3 .ensures, c .before .width-of3 .ensures, c .before .before .alu-of .ensures)
+returns-13 c = rw (c .before .match .keys13, c .size-of5 .ensures)
 
 returns-14 : tie.Need-returns-14
-returns-14 c = rw (c .before .before .before .match .keys14, c .source-of4 .ensures, c .before .width-of4 .ensures, c .before .before .shift-of .ensures)
+returns-14 c = rw (c .before .before .before .match .keys14, c .source-of3 .ensures, c .before .width-of3 .ensures, c .before .before .alu-of .ensures)
 
 returns-15 : tie.Need-returns-15
-returns-15 c = rw (c .before .match .keys15, c .width-of5 .ensures)
+returns-15 c = rw (c .before .before .before .match .keys15, c .source-of4 .ensures, c .before .width-of4 .ensures, c .before .before .shift-of .ensures)
 
 returns-16 : tie.Need-returns-16
-returns-16 c = rw (c .before .before .match .keys16, c .source-of5 .ensures, c .before .width-of6 .ensures)
+returns-16 c = rw (c .before .match .keys16, c .width-of5 .ensures)
 
 returns-17 : tie.Need-returns-17
-returns-17 c = rw (c .match .keys17)
+returns-17 c = rw (c .before .before .match .keys17, c .source-of5 .ensures, c .before .width-of6 .ensures)
 
 returns-18 : tie.Need-returns-18
 returns-18 c = rw (c .match .keys18)

@@ -25,7 +25,7 @@ returns : tie.Need-returns
 returns c =
     let measured = c .before .before .before .before .before in
     let a = measured .before .before .before .before .args in
-    no-room (filterIn (a .prog) (a .ids) (a .addresses)) (a .page) (a .start .offset)
+    no-room (filterIn (a .prog) (a .mode) (a .ids) (a .addresses)) (a .page) (a .start .offset)
     (sym (c .before .before .before .end .given .1) ∙ measured .measure .ensures .answer) (c .if1 .taken)
 
 enum-known-bad : tie.Need-enum-known-bad
@@ -36,7 +36,7 @@ returns-2 c =
     let end = c .before .before .before .before .before .before .end .given in
     let measured = c .before .before .before .before .before .before .before .before in
     let a = measured .before .before .before .before .args in
-    bad-jump (filterIn (a .prog) (a .ids) (a .addresses)) (a .page) (a .start .offset) (sym (end .1) ∙ measured .measure .ensures .answer)
+    bad-jump (filterIn (a .prog) (a .mode) (a .ids) (a .addresses)) (a .page) (a .start .offset) (sym (end .1) ∙ measured .measure .ensures .answer)
     (c .before .bad .given .1) (c .before .before .before .if1 .left)
 
 enum-told : tie.Need-enum-told
@@ -46,14 +46,14 @@ returns-3 : tie.Need-returns-3
 returns-3 c =
     let measured = c .before .before .before in
     let a = measured .before .before .before .before .args in
-    refuses (filterIn (a .prog) (a .ids) (a .addresses)) (a .page) (a .start .offset) (sym (c .before .refusal .given .1) ∙ measured .measure .ensures .answer)
+    refuses (filterIn (a .prog) (a .mode) (a .ids) (a .addresses)) (a .page) (a .start .offset) (sym (c .before .refusal .given .1) ∙ measured .measure .ensures .answer)
 
 returns-4 : tie.Need-returns-4
 returns-4 c =
     let end = c .before .before .before .before .before .end .given in
     let measured = c .before .before .before .before .before .before .before in
     let a = measured .before .before .before .before .args in
-    all-good (filterIn (a .prog) (a .ids) (a .addresses)) (a .page) (a .start .offset) (sym (end .1) ∙ measured .measure .ensures .answer)
+    all-good (filterIn (a .prog) (a .mode) (a .ids) (a .addresses)) (a .page) (a .start .offset) (sym (end .1) ∙ measured .measure .ensures .answer)
     (c .enum-told .given .1) (c .before .before .if1 .left)
 
 pub judge-measured-spec : {M : Type 1} → statement M

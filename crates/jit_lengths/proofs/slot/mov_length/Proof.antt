@@ -1,4 +1,5 @@
-use Rattle.jit_lengths.proofs.LengthsLaws.{mov-imm, mov-reg}
+use Rattle.jit_lengths.proofs.LengthsLaws.{mov-imm, mov-half, mov-whole}
+use mathlib.Core.Path.{_∙_, sym}
 use native.Mathlib.Omega.{arith}
 use borrow.Author.Needs.{needs}
 use Rattle.jit_lengths.proofs.slot.mov_length.Statement.{statement}
@@ -16,16 +17,57 @@ rexed-length-requires c κs = search needs
 enum-told-2 : tie.Need-enum-told-2
 enum-told-2 c = search needs
 
+copy-width-requires : tie.Need-copy-width-requires
+copy-width-requires c κs = search needs
+
+enum-told-3 : tie.Need-enum-told-3
+enum-told-3 c = search needs
+
+map-register-requires-2 : tie.Need-map-register-requires-2
+map-register-requires-2 c κs = search needs
+
+map-register-requires-3 : tie.Need-map-register-requires-3
+map-register-requires-3 c κs = search needs
+
+rexed-length-requires-2 : tie.Need-rexed-length-requires-2
+rexed-length-requires-2 c κs = search needs
+
+enum-told-4 : tie.Need-enum-told-4
+enum-told-4 c = search needs
+
 returns : tie.Need-returns
 returns c =
     let args = c .before .before .before .before .args in
-    rw (c .before .before .enum-told .given .1)
-    (mov-imm (args .width) (args .i) (rw (c .before .map-register .ensures .0) at (c .rexed-length .ensures .0)), c .rexed-length .ensures .1)
+    let length = rw (c .before .map-register .ensures .0) at (c .rexed-length .ensures .0) in
+    rw (c .before .before .enum-told .given .1) (mov-imm (args .mode) (args .width) (args .i) length, c .rexed-length .ensures .1)
 
 returns-2 : tie.Need-returns-2
-returns-2 c = rw (c .enum-told2 .given .1) (mov-reg (c .before .before .args .width) (c .before .before .args .i), omega arith)
+returns-2 c =
+    let args = c .before .before .before .before .before .before .before .before .args in
+    let half = sym (c .before .before .before .before .before .copy-width .ensures) ∙ c .before .before .before .enum-told3 .given .1 in
+    let length = rw (c .before .map-register3 .ensures .0, c .before .before .map-register2 .ensures .0) at (c .rexed-length2 .ensures .0) in
+    rw (c .before .before .before .before .before .before .enum-told2 .given .1) (mov-half (args .mode) (args .width) (args .i) half length, c .rexed-length2 .ensures .1)
+
+returns-3 : tie.Need-returns-3
+returns-3 c =
+    let args = c .before .before .before .before .before .args in
+    let whole = sym (c .before .before .copy-width .ensures) ∙ c .enum-told4 .given .1 in
+    rw (c .before .before .before .enum-told2 .given .1) (mov-whole (args .mode) (args .width) (args .i) whole, omega arith)
 
 pub mov-length-spec : {M : Type 1} → statement M
 mov-length-spec =
     tie.close
-    (tie.spec enum-told map-register-requires rexed-length-requires enum-told-2 returns returns-2)
+    (tie.spec
+    enum-told
+    map-register-requires
+    rexed-length-requires
+    enum-told-2
+    copy-width-requires
+    enum-told-3
+    map-register-requires-2
+    map-register-requires-3
+    rexed-length-requires-2
+    enum-told-4
+    returns
+    returns-2
+    returns-3)

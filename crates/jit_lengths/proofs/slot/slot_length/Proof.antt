@@ -119,7 +119,9 @@ insn-at-requires-10 : tie.Need-insn-at-requires-10
 insn-at-requires-10 c κs = search needs
 
 mov-length-requires : tie.Need-mov-length-requires
-mov-length-requires c κs = rw (c .insn-at10 .ensures) (c .before .before .before .before .before .pre .0 .numbered .dst)
+mov-length-requires c κs =
+    let read = c .before .before .before .before .before .pre .0 .numbered in
+    rw (c .insn-at10 .ensures) (read .dst, read .src)
 
 returns : tie.Need-returns
 returns c =
@@ -128,42 +130,42 @@ returns c =
     let op = c .before .before .before .before .mul-of .ensures in
     let width = c .before .before .before .width-of .ensures in
     rw (kind, ← op, ← width, ← c .before .before .source-of .ensures, ← c .before .insn-at .ensures)
-    (λ slot value. c .muldivmod-length .ensures .0 slot, omega (arith, c .muldivmod-length .ensures .1))
+    (c .muldivmod-length .ensures .0, omega (arith, c .muldivmod-length .ensures .1))
 
 returns-2 : tie.Need-returns-2
 returns-2 c =
     let pre = c .before .before .before .before .before .pre in
     let kind = kind-read (pre .0) (c .before .before .before .match .keys2) in
     rw (kind, ← c .before .before .size-of .ensures, ← c .before .insn-at2 .ensures)
-    (c .ld-abs-length .ensures .0, omega (arith, c .ld-abs-length .ensures .1))
+    (c .ld-abs-length .ensures .0 (c .before .before .before .before .before .args .mode), omega (arith, c .ld-abs-length .ensures .1))
 
 returns-3 : tie.Need-returns-3
 returns-3 c =
     let pre = c .before .before .before .before .before .pre in
     let kind = kind-read (pre .0) (c .before .before .before .match .keys3) in
     rw (kind, ← c .before .before .size-of2 .ensures, ← c .before .insn-at3 .ensures)
-    (c .ld-ind-length .ensures .0, omega (arith, c .ld-ind-length .ensures .1))
+    (c .ld-ind-length .ensures .0 (c .before .before .before .before .before .args .mode), omega (arith, c .ld-ind-length .ensures .1))
 
 returns-4 : tie.Need-returns-4
 returns-4 c =
     let pre = c .before .before .before .before .before .pre in
     let kind = kind-read (pre .0) (c .before .before .before .match .keys4) in
     rw (kind, ← c .before .before .size-of3 .ensures, ← c .before .insn-at4 .ensures)
-    (c .ld-reg-length .ensures .0, omega (arith, c .ld-reg-length .ensures .1))
+    (c .ld-reg-length .ensures .0 (c .before .before .before .before .before .args .mode), omega (arith, c .ld-reg-length .ensures .1))
 
 returns-5 : tie.Need-returns-5
 returns-5 c =
     let pre = c .before .before .before .before .before .pre in
     let kind = kind-read (pre .0) (c .before .before .before .match .keys5) in
     rw (kind, ← c .before .before .size-of4 .ensures, ← c .before .insn-at5 .ensures)
-    (c .st-imm-length .ensures .0, omega (arith, c .st-imm-length .ensures .1))
+    (c .st-imm-length .ensures .0 (c .before .before .before .before .before .args .mode), omega (arith, c .st-imm-length .ensures .1))
 
 returns-6 : tie.Need-returns-6
 returns-6 c =
     let pre = c .before .before .before .before .before .pre in
     let kind = kind-read (pre .0) (c .before .before .before .match .keys6) in
     rw (kind, ← c .before .before .size-of5 .ensures, ← c .before .insn-at6 .ensures)
-    (c .st-reg-length .ensures .0, omega (arith, c .st-reg-length .ensures .1))
+    (c .st-reg-length .ensures .0 (c .before .before .before .before .before .args .mode), omega (arith, c .st-reg-length .ensures .1))
 
 returns-7 : tie.Need-returns-7
 returns-7 c =
@@ -190,7 +192,7 @@ returns-9 c =
     let pre = c .before .before .before .before .before .pre in
     let kind = kind-read (pre .0) (c .before .before .before .match .keys9) in
     rw (kind, ← c .before .before .width-of4 .ensures, ← c .before .insn-at9 .ensures)
-    (c .neg-length .ensures .0, omega (arith, c .neg-length .ensures .1))
+    (c .neg-length .ensures .0 (c .before .before .before .before .before .args .mode), omega (arith, c .neg-length .ensures .1))
 
 returns-10 : tie.Need-returns-10
 returns-10 c =
@@ -205,7 +207,7 @@ returns-11 c =
     rw (kind-read (pre .0) (c .match .keys11)) (λ slot value. refl, omega arith)
 
 returns-12 : tie.Need-returns-12
-returns-12 c = let pre = c .before .before .pre in (no-length (pre .0) (pre .1) (c .match .rest), omega arith)
+returns-12 c = let pre = c .before .before .pre in (no-length (c .before .before .args .mode) (pre .0) (pre .1) (c .match .rest), omega arith)
 
 pub slot-length-spec : {M : Type 1} → statement M
 slot-length-spec =

@@ -9,11 +9,11 @@ use Rattle.jit_measuring.proofs.fits.fits.Statement.{statement}
 use Rattle.jit_measuring.proofs.fits.fits.Tie as tie
 
 abbrev Inv-loop : tie.InvT-loop
-Inv-loop kinds prog ids addresses page n from kept spare₀ slot₀ spare slot =
-    Glancing (record { program = prog; ids = ids; addresses = addresses }) page from n (slot .number) spare
+Inv-loop kinds prog mode ids addresses page n from kept spare₀ slot₀ spare slot =
+    Glancing (record { program = prog; mode = mode; ids = ids; addresses = addresses }) page from n (slot .number) spare
 
 abbrev μ-loop : tie.MeasureT-loop
-μ-loop kinds prog ids addresses page n from kept spare₀ slot₀ spare slot = n - slot .number
+μ-loop kinds prog mode ids addresses page n from kept spare₀ slot₀ spare slot = n - slot .number
 
 mul-kept : tie.Need-mul-kept Inv-loop μ-loop
 mul-kept c = search needs
@@ -47,8 +47,8 @@ returns-2 c =
 enum-told : tie.Need-enum-told Inv-loop μ-loop
 enum-told c = search needs
 
-add-t18 : tie.Need-add-t18 Inv-loop μ-loop
-add-t18 c =
+add-t19 : tie.Need-add-t19 Inv-loop μ-loop
+add-t19 c =
     let turn = c .before .before .before in
     let pre = turn .before .before .before .before .before .before .before .before .pre in
     omega (arith, pre .1 .0, turn .before .if2 .taken)
@@ -69,8 +69,8 @@ enum-told-2 c = search needs
 returns-3 : tie.Need-returns-3 Inv-loop μ-loop
 returns-3 c = tt
 
-add-t20 : tie.Need-add-t20 Inv-loop μ-loop
-add-t20 c =
+add-t21 : tie.Need-add-t21 Inv-loop μ-loop
+add-t21 c =
     let turn = c .before .before .before .before in
     let pre = turn .before .before .before .before .before .before .before .before .pre in
     omega (arith, pre .1 .0, turn .before .if2 .taken)
@@ -88,8 +88,8 @@ loop-again-2 c =
 enum-told-3 : tie.Need-enum-told-3 Inv-loop μ-loop
 enum-told-3 c = search needs
 
-add-t21 : tie.Need-add-t21 Inv-loop μ-loop
-add-t21 c =
+add-t22 : tie.Need-add-t22 Inv-loop μ-loop
+add-t22 c =
     let turn = c .before .before .before in
     let pre = turn .before .before .before .before .before .before .before .before .pre in
     omega (arith, pre .1 .0, turn .before .if2 .taken)
@@ -149,16 +149,16 @@ fits-spec =
     enum-known-refusal
     returns-2
     enum-told
-    add-t18
+    add-t19
     loop-less
     loop-again
     enum-told-2
     returns-3
-    add-t20
+    add-t21
     loop-less-2
     loop-again-2
     enum-told-3
-    add-t21
+    add-t22
     loop-less-3
     loop-again-3
     enum-told-4

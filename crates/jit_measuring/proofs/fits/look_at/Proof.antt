@@ -1,6 +1,7 @@
+use Rattle.jit.specs.Lent.{filterIn}
 use Prim.Native.Nat.{_*_, _<_}
 use lib.ListN.{getD}
-use Rattle.jit_measuring.proofs.Glances.{saw-plain, saw-divide, saw-wide, saw-swap, saw-ja, saw-jump, saw-call}
+use Rattle.jit_measuring.proofs.Glances.{saw-plain, saw-divide, saw-wide, saw-swap, saw-le, saw-ja, saw-jump, saw-call}
 use Rattle.jit_measuring.proofs.Seen.{seen, step-dst, step-src, step-unknown, step-unimplemented, unknown-is}
 use Rattle.ebpf.specs.Kinds.{UNIMPLEMENTED}
 use Rattle.jit_walk.proofs.Entries.{kind-some}
@@ -82,6 +83,18 @@ read-i32-requires-2 c κs = search needs
 
 look-at-call-requires : tie.Need-look-at-call-requires
 look-at-call-requires c κs = search needs
+
+add-read-i32-3 : tie.Need-add-read-i32-3
+add-read-i32-3 c = search needs
+
+read-i32-requires-3 : tie.Need-read-i32-requires-3
+read-i32-requires-3 c κs = search needs
+
+le-bits-requires : tie.Need-le-bits-requires
+le-bits-requires c κs = search needs
+
+found-if-requires-3 : tie.Need-found-if-requires-3
+found-if-requires-3 c κs = search needs
 
 returns-3 : tie.Need-returns-3
 unfolding insnAt
@@ -169,14 +182,32 @@ returns-10 c =
 returns-11 : tie.Need-returns-11
 unfolding insnAt
 returns-11 c =
+    let known = c .before .before .before in
+    let tested = known .before .before .before in
+    let begun = tested .before .before .before .before .before .before .before in
+    let s = seen (begun .args .prog .now) (begun .pre .1) (tested .before .if1 .left) (tested .if2 .left) in
+    let entry = sym (known .match .keys9) ∙ known .before .number-in .ensures in
+    let filter = filterIn (begun .args .prog) (begun .args .mode) (begun .args .ids) (begun .args .addresses) in
+    rw (c .found-if3 .ensures, c .before .le-bits .ensures, c .before .before .read-i323 .ensures) (saw-le filter s _ refl entry)
+
+returns-12 : tie.Need-returns-12
+unfolding insnAt
+returns-12 c =
     let known = c in
     let tested = known .before .before .before in
     let begun = tested .before .before .before .before .before .before .before in
     let s = seen (begun .args .prog .now) (begun .pre .1) (tested .before .if1 .left) (tested .if2 .left) in
     let entry = known .before .number-in .ensures in
     let not = c .match .rest in
-    saw-plain _ s _ entry (not .0 .0 .0 .0 .0 .0 .0 .1) (not .0 .0 .0 .0 .0 .0 .1) (not .0 .0 .0 .0 .1)
-    (record { wide = not .0 .0 .0 .0 .0 .1; swaps = not .0 .0 .0 .1; ja = not .0 .0 .1; jumps = not .0 .1; calls = not .1 })
+    saw-plain _ s _ entry (not .0 .0 .0 .0 .0 .0 .0 .0 .1) (not .0 .0 .0 .0 .0 .0 .0 .1) (not .0 .0 .0 .0 .0 .1)
+    (record {
+      wide = not .0 .0 .0 .0 .0 .0 .1;
+      swaps = not .0 .0 .0 .0 .1;
+      cuts = not .1;
+      ja = not .0 .0 .0 .1;
+      jumps = not .0 .0 .1;
+      calls = not .0 .1;
+    })
 
 pub look-at-spec : {M : Type 1} → statement M
 look-at-spec =
@@ -204,6 +235,10 @@ look-at-spec =
     add-read-i32-2
     read-i32-requires-2
     look-at-call-requires
+    add-read-i32-3
+    read-i32-requires-3
+    le-bits-requires
+    found-if-requires-3
     returns-3
     returns-4
     returns-5
@@ -212,4 +247,5 @@ look-at-spec =
     returns-8
     returns-9
     returns-10
-    returns-11)
+    returns-11
+    returns-12)

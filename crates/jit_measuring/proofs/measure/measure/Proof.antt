@@ -9,11 +9,11 @@ use Rattle.jit_measuring.proofs.measure.measure.Statement.{statement}
 use Rattle.jit_measuring.proofs.measure.measure.Tie as tie
 
 abbrev Inv-loop : tie.InvT-loop
-Inv-loop kinds prog ids addresses page n slot₀ at₀ bad₀ slot at bad =
-    Measuring (record { program = prog; ids = ids; addresses = addresses }) page (at₀ .offset) n (slot .number) (at .offset) bad
+Inv-loop kinds prog mode ids addresses page n slot₀ at₀ bad₀ slot at bad =
+    Measuring (record { program = prog; mode = mode; ids = ids; addresses = addresses }) page (at₀ .offset) n (slot .number) (at .offset) bad
 
 abbrev μ-loop : tie.MeasureT-loop
-μ-loop kinds prog ids addresses page n slot₀ at₀ bad₀ slot at bad = n - slot .number
+μ-loop kinds prog mode ids addresses page n slot₀ at₀ bad₀ slot at bad = n - slot .number
 
 loop-holds : tie.Need-loop-holds Inv-loop μ-loop
 loop-holds c = measuring-begins _ _ _ _ (c .before .before .before .pre .1 .1 .1 .0)
@@ -52,8 +52,8 @@ returns-2 c =
 enum-told-2 : tie.Need-enum-told-2 Inv-loop μ-loop
 enum-told-2 c = search needs
 
-add-t19 : tie.Need-add-t19 Inv-loop μ-loop
-add-t19 c =
+add-t20 : tie.Need-add-t20 Inv-loop μ-loop
+add-t20 c =
     let turn = c .before .before .before .before .before .before .before .before in
     let pre = turn .before .before .before .before .before .before .before .pre in
     omega (arith, pre .1 .0, turn .before .if1 .taken)
@@ -73,8 +73,8 @@ loop-again c =
 enum-told-3 : tie.Need-enum-told-3 Inv-loop μ-loop
 enum-told-3 c = search needs
 
-add-t20 : tie.Need-add-t20 Inv-loop μ-loop
-add-t20 c =
+add-t21 : tie.Need-add-t21 Inv-loop μ-loop
+add-t21 c =
     let turn = c .before .before .before .before .before .before .before .before in
     let pre = turn .before .before .before .before .before .before .before .pre in
     omega (arith, pre .1 .0, turn .before .if1 .taken)
@@ -97,8 +97,8 @@ enum-told-4 c = search needs
 note-bad-requires : tie.Need-note-bad-requires Inv-loop μ-loop
 note-bad-requires c κs = search needs
 
-add-t21 : tie.Need-add-t21 Inv-loop μ-loop
-add-t21 c =
+add-t22 : tie.Need-add-t22 Inv-loop μ-loop
+add-t22 c =
     let turn = c .before .before .before .before .before .before .before .before .before in
     let pre = turn .before .before .before .before .before .before .before .pre in
     omega (arith, pre .1 .0, turn .before .if1 .taken)
@@ -153,16 +153,16 @@ measure-spec =
     add-end
     returns-2
     enum-told-2
-    add-t19
+    add-t20
     loop-less
     loop-again
     enum-told-3
-    add-t20
+    add-t21
     loop-less-2
     loop-again-2
     enum-told-4
     note-bad-requires
-    add-t21
+    add-t22
     loop-less-3
     loop-again-3
     tail-of-requires

@@ -38,8 +38,8 @@ returns c =
     let slot = args .slot .number in
     let jump = jump-size op (width .result) (source .result) slot (args .i) in
     let lists = jump-lists op (width .result) (source .result) slot (args .i) in
-    rw (← width .ensures, ← source .ensures, c .jumps .ensures, c .before .target-of .ensures) (
-      finds-jump (Jump op (width .result) (source .result)) (args .n) slot (args .i) 0 (targetOf slot (args .i .off))
+    λ m. rw (← width .ensures, ← source .ensures, c .jumps .ensures, c .before .target-of .ensures) (
+      finds-jump m (Jump op (width .result) (source .result)) (args .n) slot (args .i) 0 (targetOf slot (args .i .off))
           (omega (arith, length .0 (testOf op), jump)) refl lists,
       omega (arith, length .1),
     )

@@ -1,9 +1,9 @@
 use Rattle.jit_measuring.proofs.LooksLaws.{finds-stopped, finds-of, finds-jump, finds-plain, measured-plain}
 use Rattle.jit_measuring.proofs.Seen.{seen, step-dst, step-src, step-unknown, step-unimplemented, unknown-is}
-use Rattle.ebpf.specs.Kinds.{UNIMPLEMENTED, LD-DW-IMM, BE, JA, JUMP, CALL, widthOf, conditionOf}
+use Rattle.ebpf.specs.Kinds.{UNIMPLEMENTED, LD-DW-IMM, LE, BE, JA, JUMP, CALL, widthOf, conditionOf}
 use Rattle.jit_walk.proofs.Entries.{kind-some}
 use Rattle.jit.specs.Slots.{targetOf}
-use Rattle.ebpf.specs.declared.kind.Kind.the-variants.{LdDwImm, Be, Ja, Jump, Call}
+use Rattle.ebpf.specs.declared.kind.Kind.the-variants.{LdDwImm, Le, Be, Ja, Jump, Call}
 use Rattle.ebpf.specs.Opcode.{sourceOf}
 use Rattle.ebpf.specs.Insn.{insnAt}
 use native.Mathlib.Omega.{arith}
@@ -95,6 +95,13 @@ insn-at-requires-4 c κs = search needs
 measure-call-requires : tie.Need-measure-call-requires
 measure-call-requires c κs = search needs
 
+insn-at-requires-5 : tie.Need-insn-at-requires-5
+insn-at-requires-5 c κs = search needs
+
+measure-le-requires : tie.Need-measure-le-requires
+unfolding insnAt
+measure-le-requires c κs = rw (c .insn-at5 .ensures) (omega (arith, c .before .before .before .before .before .if1 .left))
+
 slot-length-requires : tie.Need-slot-length-requires
 unfolding insnAt
 slot-length-requires c κs =
@@ -148,7 +155,7 @@ returns-5 c =
     let begun = tested .before .before .before .before .before .before .before in
     let s = seen (begun .args .prog .now) (begun .pre .1) (tested .before .if1 .left) (tested .if2 .left) in
     let entry = sym (known .match .keys3) ∙ known .before .number-in .ensures in
-    let found = rw (c .before .insn-at .ensures) at (c .measure-wide .ensures (begun .args .n)) in
+    let found = rw (c .before .insn-at .ensures) at (c .measure-wide .ensures (begun .args .n) (begun .args .mode)) in
     (finds-of _ s LdDwImm _ (kind-some _ LD-DW-IMM (λ z. omega (arith, z)) entry) (found .0), found .1)
 
 returns-6 : tie.Need-returns-6
@@ -159,7 +166,7 @@ returns-6 c =
     let begun = tested .before .before .before .before .before .before .before in
     let s = seen (begun .args .prog .now) (begun .pre .1) (tested .before .if1 .left) (tested .if2 .left) in
     let entry = sym (known .match .keys4) ∙ known .before .number-in .ensures in
-    let found = rw (c .before .insn-at2 .ensures) at (c .measure-swap .ensures (begun .args .n)) in
+    let found = rw (c .before .insn-at2 .ensures) at (c .measure-swap .ensures (begun .args .n) (begun .args .mode)) in
     (finds-of _ s Be _ (kind-some _ BE (λ z. omega (arith, z)) entry) (found .0), found .1)
 
 returns-7 : tie.Need-returns-7
@@ -174,7 +181,7 @@ returns-7 c =
     let i = insnAt (begun .args .prog .now) slot in
     let kind = kind-some _ JA (λ z. omega (arith, z)) entry in
     rw (c .jumps .ensures, c .before .target-of .ensures, c .before .before .offset-at .ensures)
-    (finds-of _ s Ja _ kind (finds-jump Ja (begun .args .n) slot i 0 (targetOf slot (i .off)) refl refl refl), omega arith)
+    (finds-of _ s Ja _ kind (finds-jump (begun .args .mode) Ja (begun .args .n) slot i 0 (targetOf slot (i .off)) refl refl refl), omega arith)
 
 returns-8 : tie.Need-returns-8
 unfolding insnAt
@@ -186,7 +193,7 @@ returns-8 c =
     let entry = sym (known .match .keys6) ∙ known .before .number-in .ensures in
     let i = insnAt (begun .args .prog .now) (begun .args .slot .number) in
     let jump = Jump (conditionOf (i .opc)) (widthOf (i .opc)) (sourceOf (i .opc)) in
-    let found = rw (c .before .insn-at3 .ensures) at (c .measure-jump .ensures) in
+    let found = rw (c .before .insn-at3 .ensures) at (c .measure-jump .ensures (begun .args .mode)) in
     (finds-of _ s jump _ (kind-some _ JUMP (λ z. omega (arith, z)) entry) (found .0), found .1)
 
 returns-9 : tie.Need-returns-9
@@ -197,7 +204,7 @@ returns-9 c =
     let begun = tested .before .before .before .before .before .before .before in
     let s = seen (begun .args .prog .now) (begun .pre .1) (tested .before .if1 .left) (tested .if2 .left) in
     let entry = sym (known .match .keys7) ∙ known .before .number-in .ensures in
-    let found = rw (c .before .insn-at4 .ensures) at (c .measure-call .ensures) in
+    let found = rw (c .before .insn-at4 .ensures) at (c .measure-call .ensures (begun .args .mode)) in
     (finds-of _ s Call _ (kind-some _ CALL (λ z. omega (arith, z)) entry) (found .0), found .1)
 
 returns-10 : tie.Need-returns-10
@@ -207,10 +214,21 @@ returns-10 c =
     let tested = known .before .before .before in
     let begun = tested .before .before .before .before .before .before .before in
     let s = seen (begun .args .prog .now) (begun .pre .1) (tested .before .if1 .left) (tested .if2 .left) in
+    let entry = sym (known .match .keys8) ∙ known .before .number-in .ensures in
+    let found = rw (c .before .insn-at5 .ensures) at (c .measure-le .ensures (begun .args .n)) in
+    (finds-of _ s Le _ (kind-some _ LE (λ z. omega (arith, z)) entry) (found .0), found .1)
+
+returns-11 : tie.Need-returns-11
+unfolding insnAt
+returns-11 c =
+    let known = c .before .before in
+    let tested = known .before .before .before in
+    let begun = tested .before .before .before .before .before .before .before in
+    let s = seen (begun .args .prog .now) (begun .pre .1) (tested .before .if1 .left) (tested .if2 .left) in
     let entry = known .before .number-in .ensures in
     let rest = known .match .rest in
     rw (c .plain .ensures) (
-      finds-plain _ s _ _ entry (rest .0 .0 .0 .0 .0 .0 .1) (rest .0 .0 .0 .0 .0 .1) (measured-plain rest) (c .before .slot-length .ensures .0),
+      finds-plain _ s _ _ entry (rest .0 .0 .0 .0 .0 .0 .0 .1) (rest .0 .0 .0 .0 .0 .0 .1) (measured-plain rest) (c .before .slot-length .ensures .0),
       c .before .slot-length .ensures .1,
     )
 
@@ -241,6 +259,8 @@ measure-slot-spec =
     measure-jump-requires
     insn-at-requires-4
     measure-call-requires
+    insn-at-requires-5
+    measure-le-requires
     slot-length-requires
     plain-requires
     returns-3
@@ -250,4 +270,5 @@ measure-slot-spec =
     returns-7
     returns-8
     returns-9
-    returns-10)
+    returns-10
+    returns-11)

@@ -26,8 +26,8 @@ returns c =
     let known = sym (c .before .before .before .before .swap-bits .ensures) ∙ c .before .before .before .if1 .taken in
     let length = rw (c .before .before .map-register .ensures .0) at (c .before .swap-length .ensures .0) in
     let slot = args .slot .number in
-    λ n. rw (known, c .plain .ensures) (
-      finds-none Be n slot (args .i) 0 length refl (none-good n slot (slotCode Be slot (args .i) 0) (swap-lists (args .i))),
+    λ n m. rw (known, c .plain .ensures) (
+      finds-none m Be n slot (args .i) 0 length refl (none-good n slot (slotCode m Be slot (args .i) 0) (swap-lists (args .i))),
       omega (arith, c .before .swap-length .ensures .1),
     )
 
@@ -37,7 +37,7 @@ stops-requires c κs = search needs
 returns-2 : tie.Need-returns-2
 returns-2 c =
     let known = sym (c .before .before .swap-bits .ensures) ∙ c .before .if1 .left in
-    λ n. rw (known, c .stops .ensures) (refl, omega arith)
+    λ n m. rw (known, c .stops .ensures) (refl, omega arith)
 
 pub measure-swap-spec : {M : Type 1} → statement M
 measure-swap-spec =

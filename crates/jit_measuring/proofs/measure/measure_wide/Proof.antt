@@ -23,14 +23,14 @@ load-imm-length-requires c κs = search needs
 returns : tie.Need-returns
 returns c =
     let operand = c .before .before .before .before .wide-operand .ensures in
-    λ n. rw (← operand, c .before .before .refusal .given .1, c .stops .ensures) (refl, omega arith)
+    λ n m. rw (← operand, c .before .before .refusal .given .1, c .stops .ensures) (refl, omega arith)
 
 returns-2 : tie.Need-returns-2
 returns-2 c =
     let args = c .before .before .before .before .before .before .args in
     let operand = c .before .before .before .before .wide-operand .ensures in
     let length = c .load-imm-length .ensures in
-    λ n. rw (← operand, c .before .before .value .given .1)
+    λ n m. rw (← operand, c .before .before .value .given .1)
     ((refl, (omega (arith, length .0 (regOf (args .i .dst))), (refl, refl))), omega (arith, length .1))
 
 pub measure-wide-spec : {M : Type 1} → statement M

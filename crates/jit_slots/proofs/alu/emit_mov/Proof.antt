@@ -18,26 +18,25 @@ enum-told-2 c = search needs
 map-register-requires-2 : tie.Need-map-register-requires-2
 map-register-requires-2 c κs = search needs
 
-emit-alu-requires : tie.Need-emit-alu-requires
-emit-alu-requires c κs = search needs
+emit-copy-requires : tie.Need-emit-copy-requires
+emit-copy-requires c κs = search needs
 
 same-length : tie.Need-same-length
 same-length c = search needs
 
 returns : tie.Need-returns
 returns c =
-    let told = c .before .before .before .before .enum-told in
-    let map-register = c .before .before .before .before .before .before .map-register in
-    rw (told .given .1, ← map-register .ensures .0) (last (c .before .before .emit-alu-imm32 .ensures))
+    let told = c .before .before .before .before in
+    rw (told .enum-told .given .1, ← told .before .before .map-register .ensures .0) (last (c .before .before .emit-alu-imm32 .ensures))
 
 same-length-2 : tie.Need-same-length-2
 same-length-2 c = search needs
 
 returns-2 : tie.Need-returns-2
 returns-2 c =
-    let told2 = c .before .before .before .before .before .enum-told2 in
-    let map-register = c .before .before .before .before .before .before .before .map-register in
-    rw (told2 .given .1, ← map-register .ensures .0, ← c .before .before .before .map-register2 .ensures .0) (last (c .before .before .emit-alu .ensures))
+    let told = c .before .before .before .before .before in
+    let dst = told .before .before .map-register .ensures .0 in
+    rw (told .enum-told2 .given .1, ← dst, ← c .before .before .before .map-register2 .ensures .0) (last (c .before .before .emit-copy .ensures))
 
 pub emit-mov-spec : {M : Type 1} → statement M
 emit-mov-spec =
@@ -48,7 +47,7 @@ emit-mov-spec =
     emit-alu-imm32-requires
     enum-told-2
     map-register-requires-2
-    emit-alu-requires
+    emit-copy-requires
     same-length
     returns
     same-length-2

@@ -13,7 +13,7 @@ write-end-requires c κs =
     let at-write-begin = c .before .before .before .before .before .before .before .before .before .before .before .before .before .before .before .before in
     let start = at-write-begin .before .before .before .before .before .before .before .before .before .before .before .before .before .before .before .before in
     let good = start .pre .1 in
-    let kept = at-write-begin .write-begin .kept .1 .1 .1 .1 .1 in
+    let kept = at-write-begin .write-begin .kept .1 .1 .1 .1 .1 .1 in
     closing good (at-write-begin .write-begin .ensures) refl refl (record { fields = refl; targets = refl; kinds = refl; makers = refl })
     (kept .0) (kept .1 .0) (kept .1 .1 .0) (kept .1 .1 .1 .0)
 
@@ -55,7 +55,7 @@ returns c =
     let good = start .pre .1 in
     let begun = at-write-begin .write-begin .ensures in (
       written good begun refl refl (record { fields = refl; targets = refl; kinds = refl; makers = refl })
-          (at-write-begin .write-begin .kept .1 .1 .1 .1 .1 .0) (at-write-end .write-end .ensures),
+          (at-write-begin .write-begin .kept .1 .1 .1 .1 .1 .1 .0) (at-write-end .write-end .ensures),
       named good begun refl refl (record { fields = refl; targets = refl; kinds = refl; makers = refl }),
     )
 

@@ -116,6 +116,12 @@ emit-be-requires c κs =
     let insn-at = c .insn-at10 .ensures in
     (rw (kind-at (pre .0 .0) (matched .match .keys10), ← insn-at) at (pre .1), fields (pre .0 .0) insn-at .dst)
 
+insn-at-requires-11 : tie.Need-insn-at-requires-11
+insn-at-requires-11 c κs = search needs
+
+emit-le-requires : tie.Need-emit-le-requires
+emit-le-requires c κs = let read = fields (c .before .before .before .before .before .pre .0 .0) (c .insn-at11 .ensures) in search needs
+
 emit-ret-requires : tie.Need-emit-ret-requires
 emit-ret-requires c κs = search needs
 
@@ -229,11 +235,23 @@ same-length-11 c = search needs
 
 returns-11 : tie.Need-returns-11
 returns-11 c =
-    let matched = c .before .before .before .before in
-    rw (kind-at (matched .before .before .before .pre .0 .0) (matched .match .keys11)) (last (c .before .before .emit-ret .ensures))
+    let read = c .before .before .before in
+    let matched = read .before .before in
+    let slot = matched .before .before .before .pre .0 .0 in
+    rw (kind-at slot (matched .match .keys11), ← read .insn-at11 .ensures) (c .before .before .emit-le .ensures)
+
+same-length-12 : tie.Need-same-length-12
+same-length-12 c = search needs
 
 returns-12 : tie.Need-returns-12
-returns-12 c = let pre = c .before .before .before .pre in rw (no-code (pre .0 .0 .numbered) (pre .0 .1) (c .match .rest)) nothing
+returns-12 c =
+    let matched = c .before .before .before .before in
+    rw (kind-at (matched .before .before .before .pre .0 .0) (matched .match .keys12)) (last (c .before .before .emit-ret .ensures))
+
+returns-13 : tie.Need-returns-13
+returns-13 c =
+    let start = c .before .before .before in
+    rw (no-code (start .args .mode) (start .pre .0 .0 .numbered) (start .pre .0 .1) (c .match .rest)) nothing
 
 pub emit-plain-spec : {M : Type 1} → statement M
 emit-plain-spec =
@@ -271,6 +289,8 @@ emit-plain-spec =
     emit-mov-requires
     insn-at-requires-10
     emit-be-requires
+    insn-at-requires-11
+    emit-le-requires
     emit-ret-requires
     same-length
     returns
@@ -294,4 +314,6 @@ emit-plain-spec =
     returns-10
     same-length-11
     returns-11
-    returns-12)
+    same-length-12
+    returns-12
+    returns-13)

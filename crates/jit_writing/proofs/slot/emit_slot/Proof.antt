@@ -2,6 +2,8 @@ use mathlib.Core.Path.{refl}
 use Prim.Native.Nat.{_+_}
 use Rattle.ebpf.specs.Insn.{readAt}
 use Rattle.ebpf.specs.declared.kind.Kind.the-variants.{LdDwImm}
+use Rattle.jit.specs.Modes.{rust}
+use Rattle.jit.specs.Translation.{Filter}
 use Rattle.jit.specs.Slots.{slotCode}
 use Rattle.jit_recording.proofs.EmitsLaws.{onwards}
 use Rattle.jit_walk.proofs.NumberedLaws.{other, others}
@@ -103,7 +105,8 @@ emit-plain-requires c κs =
     let pre = c .before .before .before .before .before .before .before .before .before .before .pre in
     let behind = readAt (args .prog .now) (args .slot .number + 1) in
     let other = other (c .before .match .rest) in
-    let plain = others (args .ids .now) (args .addresses .now) (args .slot .number) _ behind (pre .0 .0 .numbered) other in
+    let filter : Filter = record { program = args .prog .now; mode = args .mode; ids = args .ids .now; addresses = args .addresses .now } in
+    let plain = others filter (args .slot .number) _ behind (pre .0 .0 .numbered) other in
     ((pre .0 .0, other), rw (plain .same) (pre .1 .page))
 
 onward-requires-2 : tie.Need-onward-requires-2
@@ -119,7 +122,7 @@ returns c =
     let value-in = c .before .before .before .before .before .value-in in
     let insn-at = c .before .before .before .before .before .before .before .insn-at in
     rw (kind, ← insn-at .ensures, ← c .before .before .before .before .before .before .wide-operand .ensures, ← value-in .ensures)
-    (onwards (slotCode LdDwImm 0 (insn-at .result) (value-in .result)) refl (c .before .before .before .emit-ld-dw-imm .ensures) (c .onward .ensures))
+    (onwards (slotCode rust LdDwImm 0 (insn-at .result) (value-in .result)) refl (c .before .before .before .emit-ld-dw-imm .ensures) (c .onward .ensures))
 
 same-length-2 : tie.Need-same-length-2
 same-length-2 c = search needs
@@ -228,7 +231,8 @@ returns-6 c =
     let pre = earlier .pre in
     let behind = readAt (args .prog .now) (args .slot .number + 1) in
     let other = other (c .before .before .before .before .before .match .rest) in
-    let plain = others (args .ids .now) (args .addresses .now) (args .slot .number) _ behind (pre .0 .0 .numbered) other in
+    let filter : Filter = record { program = args .prog .now; mode = args .mode; ids = args .ids .now; addresses = args .addresses .now } in
+    let plain = others filter (args .slot .number) _ behind (pre .0 .0 .numbered) other in
     rw (← plain .same) (onwards _ (plain .none) (c .before .before .before .emit-plain .ensures) (c .onward2 .ensures))
 
 pub emit-slot-spec : {M : Type 1} → statement M

@@ -9,16 +9,16 @@ use Rattle.jit_writing.proofs.write.write_slots.Statement.{statement}
 use Rattle.jit_writing.proofs.write.write_slots.Tie as tie
 
 abbrev Inv-loop : tie.InvT-loop
-Inv-loop numbers prog ids addresses page code₀ locations₀ fields₀ targets₀ kinds₀ makers₀ next₀ e₀ code locations fields targets kinds makers next e =
+Inv-loop numbers prog mode ids addresses page code₀ locations₀ fields₀ targets₀ kinds₀ makers₀ next₀ e₀ code locations fields targets kinds makers next e =
     Writing
-    (record { program = prog; ids = ids; addresses = addresses }) page (e₀ .at .offset)
+    (record { program = prog; mode = mode; ids = ids; addresses = addresses }) page (e₀ .at .offset)
     code₀ code locations₀ locations
     (record { fields = fields₀; targets = targets₀; kinds = kinds₀; makers = makers₀ })
     (record { fields = fields; targets = targets; kinds = kinds; makers = makers })
     (next .number) (e .at .offset) (e .jumps)
 
 abbrev μ-loop : tie.MeasureT-loop
-μ-loop numbers prog ids addresses page code₀ locations₀ fields₀ targets₀ kinds₀ makers₀ next₀ e₀ code locations fields targets kinds makers next e =
+μ-loop numbers prog mode ids addresses page code₀ locations₀ fields₀ targets₀ kinds₀ makers₀ next₀ e₀ code locations fields targets kinds makers next e =
     length prog - next .number
 
 loop-holds : tie.Need-loop-holds Inv-loop μ-loop

@@ -1,7 +1,7 @@
 use lib.Seq.{length-take-le}
 use borrow.Author.Needs.{needs}
-use Rattle.program_translate.proofs.main.Statement.{statement}
-use Rattle.program_translate.proofs.main.Tie as tie
+use Rattle.program_translate.proofs.translate_input.Statement.{statement}
+use Rattle.program_translate.proofs.translate_input.Tie as tie
 
 slice-aggregate-fill : tie.Need-slice-aggregate-fill
 slice-aggregate-fill c = search needs
@@ -30,8 +30,8 @@ answer-requires c κs = search needs
 returns-2 : tie.Need-returns-2
 returns-2 c = search needs
 
-pub main-spec : {M : Type 1} → statement M
-main-spec =
+pub translate-input-spec : {M : Type 1} → statement M
+translate-input-spec =
     tie.close
     (tie.spec
     slice-aggregate-fill

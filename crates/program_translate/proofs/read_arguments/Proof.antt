@@ -1,0 +1,49 @@
+use Prim.Native.Nat.{_-_}
+use borrow.Author.Needs.{needs}
+use Rattle.program_translate.proofs.read_arguments.Statement.{statement}
+use Rattle.program_translate.proofs.read_arguments.Tie as tie
+
+abbrev Inv-loop : tie.InvT-loop
+Inv-loop count standard₀ i₀ standard i = Unit {0}
+
+abbrev μ-loop : tie.MeasureT-loop
+μ-loop count standard₀ i₀ standard i = count - i
+
+arg-count-requires : tie.Need-arg-count-requires Inv-loop μ-loop
+arg-count-requires c κs = search needs
+
+loop-holds : tie.Need-loop-holds Inv-loop μ-loop
+loop-holds c = search needs
+
+is-standard-requires : tie.Need-is-standard-requires Inv-loop μ-loop
+is-standard-requires c κs = search needs
+
+returns : tie.Need-returns Inv-loop μ-loop
+returns c = search needs
+
+add-i : tie.Need-add-i Inv-loop μ-loop
+add-i c = search needs
+
+loop-less : tie.Need-loop-less Inv-loop μ-loop
+loop-less c = search needs
+
+loop-again : tie.Need-loop-again Inv-loop μ-loop
+loop-again c = search needs
+
+returns-2 : tie.Need-returns-2 Inv-loop μ-loop
+returns-2 c = search needs
+
+pub read-arguments-spec : {M : Type 1} → statement M
+read-arguments-spec =
+    tie.close
+    (tie.spec
+    Inv-loop
+    μ-loop
+    arg-count-requires
+    loop-holds
+    is-standard-requires
+    returns
+    add-i
+    loop-less
+    loop-again
+    returns-2)
