@@ -7,3 +7,4 @@ pub mod JumpTablesLaws
 pub mod FrameLaws
 pub mod NoTargets
 pub mod ModesLaws
+pub mod Useless
