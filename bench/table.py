@@ -21,7 +21,9 @@ TITLES = [
 ]
 
 # A row's labels in the counts, from its own: as src/measure.rs marks them.
-RUST, OURS, DPDK, OURS_BESIDE_DPDK, OURS_IN_STANDARD_MODE = range(5)
+RUST, OURS, DPDK, OURS_BESIDE_DPDK, OURS_IN_MODES = range(5)
+# Ours has a label for each mode, from OURS_IN_MODES: standard mode and compact constants, off and on.
+MODES = ["as rbpf", "compact", "standard", "both"]
 
 
 # ---- what the files say ----------------------------------------------------------------------------------------------------------------
@@ -112,7 +114,7 @@ SUMMARY_ROWS = [
     "the corpus's accepted programs",
 ]
 FILTERS = "the real filters"
-MODE_ROWS = [*SUMMARY_ROWS, FILTERS, "LE 16", "MOV32_REG", "MOD32_REG"]
+MODE_ROWS = [*SUMMARY_ROWS, FILTERS, "MOV64_IMM", "DIV64_REG", "LE 16", "MOV32_REG", "MOD32_REG", "MUL64_IMM", "LD_DW_IMM (2 slots)"]
 
 
 class Table:
@@ -201,17 +203,17 @@ class Bench:
 
 
 def show_modes(rows, counts):
-    """Ours without standard mode and in it, on the programs that have the same verdict in both."""
+    """Ours in every mode, on the programs that have the same verdict in all."""
     figures = {}
     for label, row in rows.items():
         name = FILTERS if row.table == "filters" else row.name
         if name in MODE_ROWS:
-            off, on = (counts.instructions[label + mode] for mode in (OURS, OURS_IN_STANDARD_MODE))
-            figures.setdefault(name, Counter()).update(programs=row.programs, slots=row.slots, off=off, on=on)
-    view = Table("standard mode", "programs", "slots", "off", "on", "off, a slot", "on, a slot")
+            by_mode = {mode: counts.instructions[label + at] for at, mode in enumerate(MODES, OURS_IN_MODES)}
+            figures.setdefault(name, Counter()).update(programs=row.programs, slots=row.slots, **by_mode)
+    view = Table("mode", "programs", "slots", *MODES, *[f"{mode}, a slot" for mode in MODES])
     for name, row in figures.items():
-        a_slot = [f"{row[mode] / row['slots']:.2f}" for mode in ("off", "on")]
-        view.add(name, *[row[column] for column in ("programs", "slots", "off", "on")], *a_slot)
+        a_slot = [f"{row[mode] / row['slots']:.2f}" for mode in MODES]
+        view.add(name, *[row[column] for column in ("programs", "slots", *MODES)], *a_slot)
     view.show()
 
 
@@ -227,11 +229,12 @@ def main():
         bench.show(table)
     print("\nOurs, by pass:\n")
     bench.passes()
-    print("\nOurs, in both modes (without programs that have another verdict in standard mode):\n")
+    print("\nOurs, in every mode (without programs that have another verdict in one of them):\n")
     show_modes(rows_of(modes_rows), Counts(modes_counts))
     print("\nSummary (on a page of 16384 bytes ours measures the program before it writes it):\n")
     bench.summary()
     print(f"\nratio {bench.corpus()}")
 
 
-main()
+if __name__ == "__main__":
+    main()

@@ -78,18 +78,21 @@ def moved(left, right):
     return ("storeImm", bits, base, displacement, constant(right, bits))
 
 
-def on_two(name, left, right):
+def on_two(name, left, right, length):
     """An instruction with two operands."""
     if name == "movzx":
         bits, base, displacement = memory(right)
         return ("load", bits, base, register(left, 32), displacement)
     if name == "movabs":
-        return ("movabs", register(left, 64), int(right, 16))
+        return ("movImm", 64, register(left, 64), int(right, 16))
     if name == "rol":
         return ("rol16", register(left, 16), int(right, 16))
     if name == "mov" and "[" in left + right:
         return moved(left, right)
     number, bits = register(left, 32, 64), REGISTERS[left][1]
+    # MOV of a constant to 32 bits has two forms, and the same text for both: B8+r is a byte shorter than C7.
+    if name == "mov" and bits == 32 and right not in REGISTERS and length == 5 + number // 8:
+        return ("movImm", 32, number, constant(right, bits))
     if name in SHIFT:
         return ("shiftCl", name.upper(), bits, number) if right == "cl" else ("shiftImm", name.upper(), bits, number, int(right, 16))
     if name in ALU and right in REGISTERS:
@@ -114,16 +117,16 @@ def on_one(name, operand, end):
     raise Unread(name)
 
 
-def instruction(text, end):
+def instruction(text, length, end):
     name, _, rest = text.partition(" ")
     operands = [part.strip() for part in rest.split(",")] if rest.strip() else []
     # A byte store has a REX prefix even where its register needs none, and objdump says so.
     if name == "rex" and rest.startswith("mov "):
-        return instruction(rest, end)
+        return instruction(rest, length, end)
     if not operands and name == "ret":
         return ("ret",)
     if len(operands) == 2:
-        return on_two(name, *operands)
+        return on_two(name, *operands, length)
     if len(operands) == 1:
         return on_one(name, operands[0], end)
     raise Unread(text)
@@ -146,10 +149,10 @@ def lines(code):
             fail("objdump failed")
 
 
-def read(text, end):
+def read(text, length, end):
     """The tuple of an instruction's text, or the text where it is none of the translator's."""
     try:
-        return instruction(text, end)
+        return instruction(text, length, end)
     except (Unread, ValueError, KeyError):
         return text
 
@@ -166,7 +169,7 @@ def by_objdump(pages):
             now += 1
         if start >= starts[now] + len(pages[now]):
             continue
-        out[now].append((start - starts[now], length, read(text, start + length)))
+        out[now].append((start - starts[now], length, read(text, length, start + length)))
     return out
 
 
@@ -182,7 +185,7 @@ def by_reader(answers):
             out.append((int(second), []))
         else:
             start, length = int(first, 16), int(second)
-            out[-1][1].append((start, length, read(rest[0], start + length)))
+            out[-1][1].append((start, length, read(rest[0], length, start + length)))
     return out
 
 
@@ -198,11 +201,18 @@ class Accepted:
         self.fields, self.targets, self.kinds, self.makers = (behind[at * jumps:(at + 1) * jumps] for at in range(4))
 
 
-def accepted(answers):
-    at, number = 0, 0
-    while at < len(answers):
-        length, = struct.unpack_from("<I", answers, at)
-        if answers[at + 4] == 0:
-            yield Accepted(number, answers[at + 4:at + 4 + length])
+def records(stream):
+    """The records of a stream of cases or answers, each without the length in front."""
+    at = 0
+    while at < len(stream):
+        length, = struct.unpack_from("<I", stream, at)
+        yield stream[at + 4:at + 4 + length]
         at += 4 + length
-        number += 1
+
+
+def as_stream(given):
+    return b"".join(struct.pack("<I", len(rest)) + rest for rest in given)
+
+
+def accepted(answers):
+    return [Accepted(number, rest) for number, rest in enumerate(answers) if rest[0] == 0]

@@ -17,7 +17,6 @@ class Page:
         self.end = at + 16
         self.verdicts = []
         if self.number == 0:
-            self.code = output[self.end:self.end + self.length]
             runs = [struct.unpack_from("<BQ", output, self.end + self.length + 9 * k) for k in range(count)]
             self.verdicts = [value if end == 0 else self.accident(end) for end, value in runs]
             self.end += self.length + 9 * count
@@ -28,6 +27,10 @@ class Page:
 
     def answer(self):
         return "refused:%d:%d" % (self.number, self.slot) if self.number else "accepted"
+
+    def verdict(self):
+        """The verdict on the only packet, or the refusal."""
+        return self.answer() if self.number else self.verdicts[0]
 
 
 def pages(mode, chosen, packets=(), changes=None, seconds=None):

@@ -1,13 +1,15 @@
-"""Runs each opcode that the translator accepts on boundary values, in the pages of both modes, in the interpreter of RFC 9669 and in the
+"""Runs each opcode that the translator accepts on boundary values, in the pages of every mode, in the interpreter of RFC 9669 and in the
 Linux kernel. `exec-test/opcodes` starts it.
 
 Every program sets r0 to r9, has one instruction, and folds all registers into r0, so that an instruction that changes more than its
-destination is seen too. Left out are what filters run already: calls, EXIT, and the loads from classic BPF. The page has to give what the
-interpreter gives with the mode's differences of EXPECTED; without them the interpreter has to part from the page in these instructions and
-no others, and to agree with the kernel in all. A swap of a width that the RFC does not know has to be refused. Prints, for each mode, a line
-for each kind of instruction and the sums; the last line is 'N passed, M failed', a kind in a mode being one.
+destination is seen too. Left out are what filters run already: local calls, EXIT, and the loads from classic BPF. The page has to give what
+the interpreter gives with the mode's differences of EXPECTED; without them the interpreter has to part from the page in these instructions
+and no others, and to agree with the kernel in all. A swap of a width that the RFC does not know has to be refused. A page with compact
+constants is besides held to the one without them (compact.py): since all registers are in r0, so is each of them. Prints, for each mode, a
+line for each kind of instruction and the sums; the last line is 'N passed, M failed', a kind in a mode being one.
 """
 
+import functools
 import os
 import random
 import struct
@@ -16,20 +18,24 @@ import sys
 HERE = os.path.dirname(os.path.abspath(__file__))
 sys.path.insert(0, HERE)
 
+import compact
 import kernel
+from helpers import AT_BORDERS, FUNCTIONS, MIX
 from interpreter import BadSwap, Fault, Memory, Run
 from loader import pages
 from modes import MODES
 
 STACK_TOP = 0x70000000
 PACKET = bytes(64)
-MUL_64, ADD_64_X, MOV_64, EXIT, WIDE, JA = 0x27, 0x0F, 0xB7, 0x95, 0x18, 0x05
+MUL_64, ADD_64_X, MOV_64, EXIT, WIDE, JA, CALL = 0x27, 0x0F, 0xB7, 0x95, 0x18, 0x05, 0x85
 NAMES = ["ADD", "SUB", "MUL", "DIV", "OR", "AND", "LSH", "RSH", "NEG", "MOD", "XOR", "MOV", "ARSH"]
 CONDITIONS = {1: "JEQ", 2: "JGT", 3: "JGE", 4: "JSET", 5: "JNE", 6: "JSGT", 7: "JSGE", 10: "JLT", 11: "JLE", 12: "JSLT", 13: "JSLE"}
 NEG, MOV = 8, 11
 BAD_SWAP = 10  # the refusal
 EDGES = [0, 1, 0x80, 0xFFFF, 0x7FFFFFFF, 0x80000000, 0x100000000, 0x7FFFFFFFFFFFFFFF, 0x8000000000000001, 0xFFFFFFFFFFFFFFFF]
 CONSTANTS = [0, 1, 31, 64, 255, 0x7FFFFFFF, -0x80000000, -1]
+# On both sides of the numbers at which a wide load takes another form.
+WIDE_CONSTANTS = [0, 1, 2**31 - 1, 2**31, 2**32 - 1, 2**32, 2**63, 2**64 - 2**31 - 1, 2**64 - 2**31, 2**64 - 1]
 NO_WIDTHS = [0, 8, 24, 48, 128, -16]
 
 # The instructions in which rbpf's page parts from the RFC: entries of docs/DIFFERENCES.md.
@@ -52,6 +58,11 @@ def wide(dst, value):
 
 def word():
     return rng.choice([rng.choice(EDGES), rng.getrandbits(64), rng.getrandbits(32)])
+
+
+def shuffled():
+    """r0 to r9 in any order: as many as there are EDGES."""
+    return rng.sample(range(10), 10)
 
 
 class Case:
@@ -84,9 +95,9 @@ def by_register(kind, opcode, off=0):
 
 
 def by_constant(kind, opcode, off=0, constants=CONSTANTS):
+    """Each constant in each register, over every boundary value; then registers again."""
     for imm in constants:
-        for a in EDGES:
-            dst = rng.randrange(10)
+        for dst, a in zip(shuffled(), EDGES):
             yield Case(kind, slot(opcode, dst, 0, off, imm), **{"r%d" % dst: a})
     for dst in range(10):
         yield Case(kind, slot(opcode, dst, 0, off, rng.choice(constants)))
@@ -138,9 +149,26 @@ def accesses():
                 yield Case("STX " + name, at + slot(0x63 | size, base, value, off) + load + clear)
 
 
+def wide_loads():
+    """As by_constant."""
+    for value in WIDE_CONSTANTS:
+        for dst, a in zip(shuffled(), EDGES):
+            yield Case("LD DW", wide(dst, value), **{"r%d" % dst: a})
+
+
+def calls():
+    """Helpers, each at an address of its own; what a call leaves in r1 to r5 is nobody's business."""
+    for helper in (MIX, *AT_BORDERS):
+        for _ in range(10):
+            case = Case("CALL", slot(CALL, imm=helper) + b"".join(slot(MOV_64, r) for r in range(1, 6)))
+            case.helpers = (helper,)
+            yield case
+
+
+@functools.cache
 def interpreted(case, differences=()):
     """r0; or the refusal that a page gets for what the RFC gives no meaning."""
-    run = Run(case.program, Memory([]), STACK_TOP, {}, (0, 0), differences)
+    run = Run(case.program, Memory([]), STACK_TOP, {h: FUNCTIONS[h] for h in case.helpers}, (0, 0), differences)
     try:
         return run.result(0)
     except BadSwap:
@@ -150,10 +178,10 @@ def interpreted(case, differences=()):
 
 
 def in_kernel(case):
-    """The kernel's verdict, or None: its verifier takes no division by the constant 0, no shift by a constant that is too large and no swap
-    of another width."""
+    """The kernel's verdict, or None: its verifier takes no division by the constant 0, no shift by a constant that is too large, no swap of
+    another width and no helper of ours."""
     try:
-        return kernel.verdicts(case.program, False, [PACKET])[0] if kernel.is_allowed() else None
+        return kernel.verdicts(case.program, False, [PACKET])[0] if kernel.is_allowed() and not case.helpers else None
     except kernel.Refused as why:
         if any(reason in str(why) for reason in ("div by zero", "invalid shift", "BPF_END uses reserved fields")):
             return None
@@ -164,17 +192,19 @@ class Kind:
     """What came of all cases of one kind in one mode."""
 
     def __init__(self, name, mode):
-        self.name, self.cases, self.wrong, self.parted, self.asked, self.unlike_kernel = name, 0, 0, 0, 0, 0
+        self.name, self.cases, self.wrong, self.parted, self.asked, self.unlike_kernel, self.unlike_plain = name, 0, 0, 0, 0, 0, []
         self.entry = None if EXPECTED.get(name) in mode.mended else EXPECTED.get(name)
         self.differences = mode.differences(EXPECTED.values())
 
-    def add(self, case, page, by_rfc, theirs):
-        ours = page.verdicts[0] if page.number == 0 else page.answer()
+    def add(self, case, page, plain, by_rfc, theirs):
+        """`plain` is the page without compact constants, where this one has them."""
+        ours = page.verdict()
         self.cases += 1
         self.wrong += ours != interpreted(case, self.differences)
         self.parted += ours != by_rfc
         self.asked += theirs is not None
         self.unlike_kernel += theirs is not None and theirs != by_rfc % 2**32
+        self.unlike_plain += compact.problems(case, page, plain) if plain else ()
 
     def problems(self):
         if self.wrong:
@@ -185,13 +215,16 @@ class Kind:
             yield "%s does not show" % self.entry
         if self.unlike_kernel:
             yield "the kernel differs from the interpreter in %d cases" % self.unlike_kernel
+        if self.unlike_plain:
+            yield "%d times, as here: %s" % (len(self.unlike_plain), self.unlike_plain[0])
 
 
-def judged(mode, cases, by_rfc, by_kernel):
+def judged(mode, cases, ours, by_rfc, by_kernel):
     """The kinds; what the RFC and the kernel say of a case is the same in every mode."""
     kinds = {}
-    for case, page, meant, theirs in zip(cases, pages(mode, cases, [PACKET]), by_rfc, by_kernel):
-        kinds.setdefault(case.kind, Kind(case.kind, mode)).add(case, page, meant, theirs)
+    plain = ours[mode.plain] if mode.is_compact() else [None] * len(cases)
+    for case, *rest in zip(cases, ours[mode], plain, by_rfc, by_kernel):
+        kinds.setdefault(case.kind, Kind(case.kind, mode)).add(case, *rest)
     return kinds.values()
 
 
@@ -212,13 +245,16 @@ def say(mode, kinds):
 
 
 def main():
-    cases = [case for part in (arithmetic, jumps, accesses) for case in part()]
+    cases = [case for part in (arithmetic, jumps, accesses, wide_loads, calls) for case in part()]
     print("exec-test: %d programs" % len(cases), file=sys.stderr, flush=True)
     by_rfc, by_kernel = [interpreted(case) for case in cases], [in_kernel(case) for case in cases]
-    tried = failed = 0
+    ours, tried, failed = {}, 0, 0
     for mode in MODES:
-        kinds = judged(mode, cases, by_rfc, by_kernel)
+        ours[mode] = pages(mode, cases, [PACKET])
+        kinds = judged(mode, cases, ours, by_rfc, by_kernel)
         tried, failed = tried + len(kinds), failed + say(mode, kinds)
+        if mode.is_compact():
+            print("%s: %s" % (mode.name, compact.said(zip(ours[mode], ours[mode.plain]))))
     print("%d passed, %d failed" % (tried - failed, failed))
     sys.exit(1 if failed else 0)
 

@@ -3,8 +3,8 @@
    every register that they may change. Numbers are little-endian.
 
    Standard input: the number of packets, each as its length and bytes; then filters until the end, each as flags (bit 0 use_mbuff, bit 1
-   update_data_ptr, bit 2 standard mode), the page's bytes, the number of helper ids and the ids, the program's length and bytes, and the
-   position of a code byte to change before the run (ffffffff for none). All numbers have 32 bits.
+   update_data_ptr, bit 2 standard mode, bit 3 compact constants), the page's bytes, the number of helper ids and the ids, the program's
+   length and bytes, and the position of a code byte to change before the run (ffffffff for none). All numbers have 32 bits.
    Standard output, for each filter: number, slot, L and J of the answer, 32 bits each; accepted, the L code bytes and then for each packet
    a byte 0, the signal that ended the run, or 255 where registers that a function has to keep were changed, and the 64 bits of r0. A page
    that does not end is not run again: the packets behind get the same byte. */
@@ -20,7 +20,9 @@
 
 #define PACKET_END ((uint8_t *)0x30010000)
 #define MBUFF_END ((uint8_t *)0x20001000)
-#define FAR_HELPERS ((uint8_t *)0x100000000000)
+#define FAR_HELPERS 0x100000000000ull
+#define SIGNED_END 0x80000000ull /* from here on an address is beyond the reach of a signed 32-bit constant */
+#define SHORT_END 0x100000000ull /* and from here on of any 32-bit one */
 #define PAGE 4096
 #define NO_CHANGE 0xffffffffu
 #define REGISTERS_CHANGED 255
@@ -95,23 +97,44 @@ static void map(uint8_t *at, size_t length, int protection) {
     if (mmap(at, length, protection, MAP_PRIVATE | MAP_ANONYMOUS | MAP_FIXED, -1, 0) != at) stop("memory cannot be mapped");
 }
 
-/* A helper beyond the reach of a signed 32-bit constant, so that both ways to load an address are run. */
-static uint64_t far_away(int index, void (*helper)(void)) {
-    uint8_t *at = FAR_HELPERS + 16 * index;
-    uint64_t address = (uint64_t)helper;
+/* The helpers. One with a place is entered there: far away, and on both sides of the two ends, so that every way to load an address is run.
+   One without stands where the compiler has it. */
+static const struct helper {
+    uint32_t id;
+    uint64_t place;
+    void (*entry)(void);
+} known[] = {
+    {1, 0, enter_is_subscribed},
+    {2, FAR_HELPERS, enter_mix},
+    {28, FAR_HELPERS + 16, enter_csum_diff},
+    {201, SIGNED_END - 16, enter_mix},
+    {202, SIGNED_END, enter_mix},
+    {203, SHORT_END - 16, enter_mix},
+    {204, SHORT_END, enter_mix},
+};
+
+/* Writes a jump to the helper's entry at its place, which has 16 bytes. */
+static uint64_t placed(const struct helper *helper) {
+    uint8_t *at = (uint8_t *)helper->place;
+    uint64_t address = (uint64_t)helper->entry;
     at[0] = 0x48; at[1] = 0xb8; memcpy(at + 2, &address, 8);
     at[10] = 0xff; at[11] = 0xe0;
-    return (uint64_t)at;
+    return helper->place;
 }
 
 static uint64_t helper_address(uint32_t id) {
-    switch (id) {
-    case 1: return (uint64_t)enter_is_subscribed;
-    case 2: return far_away(0, enter_mix);
-    case 28: return far_away(1, enter_csum_diff);
+    for (size_t i = 0; i < sizeof known / sizeof *known; i++) {
+        if (known[i].id == id) return known[i].place ? placed(&known[i]) : (uint64_t)known[i].entry;
     }
     stop("there is no such helper");
     return 0;
+}
+
+static void map_places(void) {
+    const int all = PROT_READ | PROT_WRITE | PROT_EXEC;
+    map((uint8_t *)FAR_HELPERS, PAGE, all);
+    map((uint8_t *)SIGNED_END - PAGE, 2 * PAGE, all);
+    map((uint8_t *)SHORT_END - PAGE, 2 * PAGE, all);
 }
 
 static void read_all(void *into, size_t length) {
@@ -232,14 +255,15 @@ int main(void) {
     map(PACKET_END, PAGE, PROT_NONE);
     map(MBUFF_END - PAGE, PAGE, PROT_READ | PROT_WRITE);
     map(MBUFF_END, PAGE, PROT_NONE);
-    map(FAR_HELPERS, PAGE, PROT_READ | PROT_WRITE | PROT_EXEC);
+    map_places();
     catch_signals();
     uint32_t count = read_number();
     if (count > MAX_PACKETS) stop("there are too many packets");
     for (uint32_t i = 0; i < count; i++) packets[i] = read_bytes();
     uint32_t flags;
     while (fread(&flags, 1, 4, stdin) == 4) {
-        struct ndakoleem_flags named = {.use_mbuff = flags & 1, .update_data_ptr = flags & 2, .standard = flags & 4};
+        struct ndakoleem_flags named = {
+            .use_mbuff = flags & 1, .update_data_ptr = flags & 2, .standard = flags & 4, .compact = flags & 8};
         try_filter(named, packets, count);
     }
     return 0;

@@ -1,11 +1,12 @@
-"""Runs the Linux kernel's own tests of its translators, the table in its lib/test_bpf.c, in the pages of both modes. `exec-test/test-bpf`
+"""Runs the Linux kernel's own tests of its translators, the table in its lib/test_bpf.c, in the pages of every mode. `exec-test/test-bpf`
 starts it, and names the file.
 
 The table and the functions that make its longer programs are cut out of the file and compiled as they stand there (test_bpf.c, test_bpf.h).
 Every test is run but for those to which reason() gives a reason. r1 points to the memory that the test asks for, and the low half of r0 is
 compared, as in the kernel. In standard mode the page and the interpreter of RFC 9669 have to give the result that the table has for the
 test. As rbpf the page has to give what the interpreter gives with the differences that standard mode mends; some of these results have to
-be others than the table's, or the tests would not see the mode.
+be others than the table's, or the tests would not see the mode. A page with compact constants is besides held to the one without them, in
+all of r0 (compact.py).
 
 A program that is too long for the translator is run in pieces where it is a row of checks, each with an EXIT of its own for the case that it
 fails: it is cut behind such an EXIT, and every piece gets the program's first slot and its last two, which set r0. That a piece needs nothing
@@ -26,6 +27,7 @@ import sys
 HERE = os.path.dirname(os.path.abspath(__file__))
 sys.path.insert(0, HERE)
 
+import compact
 from interpreter import Fault, M32, M64, Memory, Run
 from loader import pages
 from machine import BUILT, compiled, fail
@@ -135,16 +137,19 @@ def tests(source):
 
 
 def in_pages(mode, pieces):
-    """The low half of r0 of each piece, or what else came of it."""
+    """The page of each piece."""
     for memory, same in itertools.groupby(pieces, lambda piece: piece.memory):
         while batch := list(itertools.islice(same, BATCH)):
-            for page in pages(mode, batch, [bytes(memory)]):
-                verdict = page.answer() if page.number else page.verdicts[0]
-                yield verdict if isinstance(verdict, str) else verdict & M32
+            yield from pages(mode, batch, [bytes(memory)])
+
+
+def low_half(verdict):
+    return verdict if isinstance(verdict, str) else verdict & M32
 
 
 def interpreted(piece, differences):
-    """As in_pages. No verifier is asked, and a test may take a register from itself that nothing has set; a piece of one may not."""
+    """The low half of r0, or what else came of the piece. No verifier is asked, and a test may take a register from itself that nothing has
+    set; a piece of one may not."""
     data = PACKET_END - max(piece.memory, SHORTEST_RAW)
     run = Run(piece.program, Memory([(data, bytearray(piece.memory))]), STACK_TOP, {}, (0, 0), differences)
     if piece.program == piece.test.program:
@@ -155,24 +160,26 @@ def interpreted(piece, differences):
         return str(why)
 
 
-def judged(mode, pieces):
+def judged(mode, pieces, ours, theirs):
     """The tests that fail, and those whose result is not the table's, each with what was seen."""
     failed, others = {}, {}
-    for piece, ours in zip(pieces, in_pages(mode, pieces)):
-        theirs = interpreted(piece, mode.differences(STANDARD.mended))
-        seen = "%s in the page, %s in the interpreter, %s in the table" % (ours, theirs, piece.result)
-        if ours != piece.result:
-            others[piece.test] = seen
-        if ours != theirs or ours != piece.result and mode is STANDARD:
-            failed[piece.test] = seen
+    for piece, page, plain, meant in zip(pieces, ours[mode], ours[mode.plain], theirs[mode.plain]):
+        seen = low_half(page.verdict())
+        said = "%s in the page, %s in the interpreter, %s in the table" % (seen, meant, piece.result)
+        if seen != piece.result:
+            others[piece.test] = said
+        if seen != meant or seen != piece.result and mode.plain is STANDARD:
+            failed[piece.test] = said
+        for problem in compact.problems(piece, page, plain) if mode.is_compact() else ():
+            failed[piece.test] = problem
     return failed, others
 
 
 def say(chosen, mode, failed, others):
-    for test, seen in failed.items():
-        print("FAILED %s, %s: %s" % (mode.name, test.name, seen))
-    for test, seen in others.items() if mode is RBPF else ():
-        print("%s, %s: %s" % (mode.name, test.name, seen))
+    for test, said in failed.items():
+        print("FAILED %s, %s: %s" % (mode.name, test.name, said))
+    for test, said in others.items() if mode is RBPF else ():
+        print("%s, %s: %s" % (mode.name, test.name, said))
     print("%s: %d tests have the kernel's result, %d have another" % (mode.name, len(chosen) - len(others), len(others)), flush=True)
 
 
@@ -187,10 +194,15 @@ def main():
     pieces = [piece for test in chosen for piece in test.pieces()]
     slots = sum(len(piece.program) // 8 for piece in pieces)
     print("%d tests, %d run, in %d programs of %d slots" % (len(given), len(chosen), len(pieces), slots), flush=True)
-    failures = 0
+    ours, theirs, failures = {}, {}, 0
     for mode in MODES:
-        failed, others = judged(mode, pieces)
+        ours[mode] = list(in_pages(mode, pieces))
+        if not mode.is_compact():
+            theirs[mode] = [interpreted(piece, mode.differences(STANDARD.mended)) for piece in pieces]
+        failed, others = judged(mode, pieces, ours, theirs)
         say(chosen, mode, failed, others)
+        if mode.is_compact():
+            print("%s: %s" % (mode.name, compact.said(zip(ours[mode], ours[mode.plain]))), flush=True)
         if mode is RBPF and not others:
             fail("as rbpf every test has the kernel's result: these tests do not see the mode")
         failures += len(failed)

@@ -5,8 +5,8 @@ The library translates in each mode (runner.c plays the loader), the page is map
 packet: all 64 bits of r0 of the interpreter (interpreter.py); tcpdump, for the filters that can be said in its language; and the Linux
 kernel, where it lets us (kernel.py). Where rbpf's page parts from RFC 9669 in a way that docs/DIFFERENCES.md lists, expected.txt names the
 entry. Unless the mode follows the RFC there (modes.py), the interpreter has to agree in full with that entry, and to disagree without it;
-the other engines are held to the RFC's verdict. Prints a table and the sums for each mode; the last line is 'N passed, M failed', a filter in
-a mode being one, and the status is 1 where one failed.
+the other engines are held to the RFC's verdict. A page with compact constants is besides held to the one without them (compact.py). Prints a
+table and the sums for each mode; the last line is 'N passed, M failed', a filter in a mode being one, and the status is 1 where one failed.
 """
 
 import functools
@@ -21,7 +21,9 @@ FILTERS = os.path.join(HERE, "..", "examples", "filters")
 CAPTURE = os.path.join(HERE, "..", "examples", "packets", "packets.pcap")
 sys.path[:0] = [HERE, FILTERS]
 
+import compact
 import kernel
+from helpers import CSUM_DIFF, FUNCTIONS
 from interpreter import Fault, M32, Memory, Run
 from loader import NO_CHANGE, pages
 from machine import fail
@@ -31,7 +33,6 @@ from modes import MODES, RBPF
 # As in runner.c.
 PACKET_END, MBUFF_END = 0x30010000, 0x20001000
 STACK_TOP = 0x70000000
-SUBSCRIBED, MIX, CSUM_DIFF = 1, 2, 28
 
 
 def records(capture):
@@ -44,55 +45,29 @@ def records(capture):
 
 
 def expectations():
-    """name: (differences, tcpdump expression or None)"""
+    """name: (differences, tcpdump expression or None, the answer with compact constants or None)"""
     out = {}
     with open(os.path.join(HERE, "expected.txt")) as file:
         for line in file:
             if line.strip() and not line.startswith("#"):
-                name, differences, expression = (part.strip() for part in line.split(" | "))
-                out[name] = ([] if differences == "-" else differences.split(","), None if expression == "-" else expression)
+                name, differences, expression, *answer = (None if part.strip() == "-" else part.strip() for part in line.split(" | "))
+                out[name] = (differences.split(",") if differences else [], expression, answer[0] if answer else None)
     return out
 
 
 def expected_of(f, mode, table):
-    """The line of the filter, or that of its source, for a mode."""
+    """(differences, expression, answer) of the filter in a mode, from its own line or that of its source."""
     name = f.name.split("@")[0]
-    differences, expression = table.get(name) or table.get(name.split(".")[0]) or fail("expected.txt has no line for %s" % f.name)
+    line = table.get(f.name) or table.get(name) or table.get(name.split(".")[0]) or fail("expected.txt has no line for %s" % f.name)
+    differences, expression, answer = line
     if expression and "HOSTS" in expression:
         with open(os.path.join(FILTERS, f.source)) as file:
             listed = re.findall(r" S\((\d+), (\d+), (\d+), (\d+)\)", file.read())
         expression = expression.replace("HOSTS", " or ".join("host " + ".".join(address) for address in listed))
-    return mode.differences(differences), expression
+    return mode.differences(differences), expression, answer if answer and mode.is_compact() else f.answer
 
 
-# The helpers, as examples/filters/README.md has them.
-
-
-def is_subscribed(_, address, *rest):
-    return int(address % 256 % 7 == 0)
-
-
-def mix(_, *numbers):
-    total = 0
-    for number in numbers:
-        total = (total * 31 + number) % 2**64
-    return total >> 32 ^ total & M32
-
-
-def csum_diff(memory, source, source_size, target, target_size, seed):
-    def halves(at, size):
-        return sum(memory.load(at + k, 2) for k in range(0, size, 2))
-
-    total = seed + halves(target, target_size) + source_size // 2 * 0xFFFF - halves(source, source_size)
-    while total >> 32:
-        total = (total & M32) + (total >> 32)
-    return total
-
-
-HELPERS = {SUBSCRIBED: is_subscribed, MIX: mix, CSUM_DIFF: csum_diff}
-
-
-# What the other engines say of a filter, once for both modes.
+# What the other engines say of a filter, once for all modes.
 
 
 @functools.cache
@@ -104,7 +79,7 @@ def interpreted(f, packets, differences):
         data = PACKET_END - len(room)
         mbuff = struct.pack("<QQ", data, data + len(packet))
         memory = Memory([(data, bytearray(room)), (MBUFF_END - len(mbuff), bytearray(mbuff))])
-        run = Run(program, memory, STACK_TOP, {h: HELPERS[h] for h in f.helpers}, (data, len(packet)), differences)
+        run = Run(program, memory, STACK_TOP, {h: FUNCTIONS[h] for h in f.helpers}, (data, len(packet)), differences)
         try:
             out.append(run.result(MBUFF_END - len(mbuff) if f.form == "mbuff" else data))
         except Fault as why:
@@ -147,14 +122,15 @@ def is_kept(verdict):
 
 
 class Judged:
-    """A filter's row of the table, and what is wrong with it."""
+    """A filter's row of the table, and what is wrong with it. `plain` is its page without compact constants, where this one has them."""
 
-    def __init__(self, f, page, times, packets, expected):
-        self.problems, self.compared = [], {}
-        differences, expression = expected
+    def __init__(self, f, page, plain, times, packets, expected):
+        self.page, self.plain, self.compared = page, plain, {}
+        self.problems = list(compact.problems(f, page, plain)) if plain else []
+        differences, expression, answer = expected
         self.cells = [f.name, f.cpu, str(len(f.bytecode()) // 8), page.answer() if page.number else "%d / %d" % (page.length, page.jumps)]
-        if page.answer() != f.answer:
-            self.problems.append("the answer is %s, list.txt says %s" % (page.answer(), f.answer))
+        if page.answer() != answer:
+            self.problems.append("the answer is %s, and %s is expected" % (page.answer(), answer))
         if page.number:
             self.cells += ["-"] * 6
             return
@@ -227,6 +203,8 @@ def say(judged):
     for whose in ("the interpreter", "tcpdump", "the kernel"):
         counts = [j.compared[whose] for j in judged if j.compared.get(whose)]
         print("compared with %s: %d verdicts of %d pages" % (whose, sum(counts), len(counts)))
+    if judged[0].plain:
+        print(compact.said((j.page, j.plain) for j in judged))
     return sum(bool(j.problems) for j in judged)
 
 
@@ -239,11 +217,12 @@ def main():
         return
     if not kernel.is_allowed():
         print("exec-test: the kernel takes no programs from here, so it is not asked")
-    table, failed = expectations(), 0
+    table, ours, failed = expectations(), {}, 0
     for mode in MODES:
         print(mode.name + ":")
-        ours = pages(mode, chosen, packets, [change] * len(chosen))
-        failed += say([Judged(f, page, times, packets, expected_of(f, mode, table)) for f, page in zip(chosen, ours)])
+        ours[mode] = pages(mode, chosen, packets, [change] * len(chosen))
+        plain = ours[mode.plain] if mode.is_compact() else [None] * len(chosen)
+        failed += say([Judged(f, *both, times, packets, expected_of(f, mode, table)) for f, *both in zip(chosen, ours[mode], plain)])
     print("%d passed, %d failed" % (len(MODES) * len(chosen) - failed, failed))
     sys.exit(1 if failed else 0)
 

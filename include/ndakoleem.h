@@ -95,6 +95,8 @@ struct ndakoleem_translation {
  *   update_data_ptr      with use_mbuff: the packet's start and end are stored in the mbuff, at the two offsets that the call gives
  *   standard             standard mode: a 32-bit MOV by register and a 32-bit MOD by zero clear the upper half of dst, and LE 16 and LE 32 keep
  *                        its low 16 and 32 bits alone, as RFC 9669 has it. Off, as in rbpf, this MOV copies 64 bits, this MOD and LE do nothing
+ *   compact              compact constants: one of 0 to 4,294,967,295 takes 5 or 6 bytes to load, and not 7 or 10, so that a longer program
+ *                        finds room in a page. The code does the same. Off, constants are loaded as in rbpf
  *   ids, addresses       the helpers that the program may call: a number and a function for each, side by side, no number twice
  *   code                 accepted: its first `length` bytes become the code
  *   locations            accepted: entries 0 to n become the position of each slot's code (0 for a wide load's second slot, and for entry n)
@@ -104,9 +106,9 @@ struct ndakoleem_translation {
  *                        holds it (n for the prologue's jump, which comes first)
  *
  * Everything behind these is left as it was; a refusal changes nothing at all. */
-struct ndakoleem_translation ndakoleem_translate_3(
+struct ndakoleem_translation ndakoleem_translate_4(
     const uint8_t *program, size_t program_length,
-    bool use_mbuff, bool update_data_ptr, bool standard,
+    bool use_mbuff, bool update_data_ptr, bool standard, bool compact,
     const uint32_t *ids, size_t ids_length,
     const uint64_t *addresses, size_t addresses_length,
     uint8_t *code, size_t code_length,
@@ -123,16 +125,17 @@ size_t ndakoleem_sentence(
     uint8_t number, size_t slot,
     char *out, size_t out_length);
 
-/* The flags of a translation; ndakoleem_translate_3 explains each. A caller names those that it sets, as in
+/* The flags of a translation; ndakoleem_translate_4 explains each. A caller names those that it sets, as in
  * `(struct ndakoleem_flags){.use_mbuff = true}`: the others are off, and so is every one that is added later. In C++ they are set one by one,
  * as in `ndakoleem_flags flags = {}; flags.use_mbuff = true;`, or by a list in braces. */
 struct ndakoleem_flags {
     bool use_mbuff;
     bool update_data_ptr;
     bool standard;
+    bool compact;
 };
 
-/* What is lent to a translation and written by it; ndakoleem_translate_3 explains each. Lengths are in elements. */
+/* What is lent to a translation and written by it; ndakoleem_translate_4 explains each. Lengths are in elements. */
 struct ndakoleem_buffers {
     uint8_t *code;
     size_t code_length;
@@ -176,7 +179,7 @@ static inline struct ndakoleem_buffers ndakoleem_lend(struct ndakoleem_memory *m
     return lent;
 }
 
-/* ndakoleem_translate_3, with the flags in one struct and the buffers in another. The helper lists and the tables may be null where their
+/* ndakoleem_translate_4, with the flags in one struct and the buffers in another. The helper lists and the tables may be null where their
  * lengths are 0: a caller who does not know of a table, and leaves it so, gets NDAKOLEEM_TABLE_TOO_SHORT. */
 static inline struct ndakoleem_translation ndakoleem_translate_into(
     const uint8_t *program, size_t program_length,
@@ -187,8 +190,8 @@ static inline struct ndakoleem_translation ndakoleem_translate_into(
     static const uint32_t no_id = 0;
     static const uint64_t no_address = 0;
     uint32_t no_entry = 0;
-    return ndakoleem_translate_3(
-        program, program_length, flags.use_mbuff, flags.update_data_ptr, flags.standard,
+    return ndakoleem_translate_4(
+        program, program_length, flags.use_mbuff, flags.update_data_ptr, flags.standard, flags.compact,
         ids == NULL ? &no_id : ids, ids_length,
         addresses == NULL ? &no_address : addresses, addresses_length,
         lent->code, lent->code_length,

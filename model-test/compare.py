@@ -141,9 +141,10 @@ def cases():
             yield Case(("unary", "DIV", w, r), having((RDX, word() % (b % 2**w or 1)), (r, b)))
         for _ in range(400):
             yield Case(("unary", "DIV", w, rng.randrange(16)), registers())
-    for d in range(16):
-        for x in EDGES + [rng.getrandbits(64) for _ in range(10)]:
-            yield Case(("movabs", d, x), registers())
+    for w in WIDTHS:
+        for d in range(16):
+            for x in [x for x in EDGES if x < 2**w] + [rng.getrandbits(w) for _ in range(10)]:
+                yield Case(("movImm", w, d, x), registers())
     for c in range(256):
         for a in rng.sample(EDGES, 6) + [word(), word()]:
             d = rng.randrange(16)
@@ -195,7 +196,7 @@ def name(i):
     k = i[0]
     if k in ("alu", "aluImm", "shiftImm", "shiftCl", "unary"):
         return "%s %s %d" % (k, i[1], i[2])
-    if k in ("load", "store", "storeImm", "bswap"):
+    if k in ("load", "store", "storeImm", "bswap", "movImm"):
         return "%s %d" % (k, i[1])
     return "%s %s" % (k, i[1]) if k == "jump" else k
 
@@ -252,11 +253,11 @@ def term(i):
     size = {8: "S8", 16: "S16", 32: "S32", 64: "S64"}
     if k in ("alu", "aluImm", "shiftImm", "shiftCl", "unary"):
         return "op (%s %s)" % (k, " ".join([a[0], width[a[1]]] + [str(v) for v in a[2:]]))
-    if k == "bswap":
-        return "op (bswap %s %d)" % (width[a[0]], a[1])
+    if k in ("bswap", "movImm"):
+        return "op (%s %s)" % (k, " ".join([width[a[0]]] + [str(v) for v in a[1:]]))
     if k in ("load", "store", "storeImm"):
         return "op (%s %s)" % (k, " ".join([size[a[0]]] + [str(v) for v in a[1:]]))
-    if k in ("push", "pop", "movabs", "rol16"):
+    if k in ("push", "pop", "rol16"):
         return "op (%s %s)" % (k, " ".join(str(v) for v in a))
     if k == "jump":
         return "jump %s %d" % (a[0] if a[0] in ("jmp", "call") else "(jcc %s)" % a[0], a[1])
@@ -299,7 +300,7 @@ def table_cases():
         for h, a, b in ((0, 7, 2), (0, 7, 0), (1, 0, 1), (2, 5, 3), (0, 2**wd - 1, 2**wd - 1)):
             yield case(("unary", "DIV", wd, 1), [(0, a), (1, b), (2, h)])
         yield case(("bswap", wd, 15), [(15, 0x0123456789ABCDEF)])
-    yield case(("movabs", 11, 0xFEDCBA9876543210), [(11, 1)])
+    yield case(("movImm", 64, 11, 0xFEDCBA9876543210), [(11, 1)])
     for c in (0, 1, 8, 16, 17, 32, 40, 255):
         yield case(("rol16", 7, c), [(7, t.choice([0x0123456789ABCDEF, 0xFFFFFFFFFFFF8001]))])
     for z in SIZES:
@@ -335,6 +336,10 @@ def table_cases():
     yield case(("unary", "DIV", 64, 1), [(0, 7), (1, 0)], allowed=False)
     yield case(("jump", "jmp", 5), [], allowed=False)
     yield case(("jump", "JE", 5), [], allowed=False)
+    # a constant of 32 bits, into a register whose upper half is set: it is cleared, and no sign is extended
+    for d, x in ((11, 0xFEDCBA98), (1, 0x7FFFFFFF), (RSP, 0)):
+        yield case(("movImm", 32, d, x), [(d, M64 - 1)])
+    yield case(("movImm", 32, 0, 5), [(0, M64 - 1)], allowed=False)
 
 
 CODES = {"running": 0, "finished": 1, "faulted": 2, "unbalanced": 3, "divided": 4}

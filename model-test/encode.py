@@ -50,9 +50,9 @@ def encode(i):
     if k == "unary":
         o, w, r = a
         return rex(w == 64, 0, r) + [0xF7] + modrm(3, UNARY[o], r)
-    if k == "movabs":
-        d, x = a
-        return rex(1, 0, d) + [0xB8 + d % 8] + le(8, x)
+    if k == "movImm":
+        w, d, x = a
+        return rex(w == 64, 0, d) + [0xB8 + d % 8] + le(w // 8, x)
     if k == "rol16":
         d, x = a
         return [0x66] + rex(0, 0, d) + [0xC1] + modrm(3, 0, d) + [x]

@@ -236,9 +236,9 @@ def writesOf(i, g, u):
     if k == "unary":
         o, w, r = a
         return unaryWrites(o, w, g, r)
-    if k == "movabs":
-        d, x = a
-        return [(d, x % 2**64)]
+    if k == "movImm":
+        w, d, x = a
+        return [(d, x % 2**w)]
     if k == "rol16":
         d, x = a
         return [(d, keptAbove16(rd(64, g, d), rolled(rd(64, g, d), rolCount(x))))]
@@ -279,7 +279,7 @@ def faultsOf(i, g):
     return i[0] == "unary" and i[1] == "DIV" and divides(i[2], g, i[3])
 
 
-PLAIN = ("push", "pop", "alu", "aluImm", "shiftImm", "shiftCl", "unary", "movabs", "rol16", "bswap", "load", "store", "storeImm")
+PLAIN = ("push", "pop", "alu", "aluImm", "shiftImm", "shiftCl", "unary", "movImm", "rol16", "bswap", "load", "store", "storeImm")
 
 
 def touches(i):

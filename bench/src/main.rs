@@ -6,13 +6,13 @@
 //! programs are in `programs.rs`; `measure.rs` runs and marks them.
 //!
 //!     bench count CORPUS [FILTER ..]    mark each translation for icount.c
-//!     bench modes CORPUS [FILTER ..]    mark ours, without standard mode and in it
+//!     bench modes CORPUS [FILTER ..]    mark ours, in every mode
 //!     bench time CORPUS [FILTER ..]     time each translation
 //!
 //! Each prints a line for each row: its label, its table, its name, how many
 //! programs and slots it has, and, of `time`, nanoseconds of the Rust and ours.
 //! DPDK's JIT is counted, and not timed. `modes` leaves out a program that has
-//! another verdict in standard mode.
+//! another verdict in one of them.
 
 #[cfg_attr(not(dpdk), path = "no_dpdk.rs")]
 mod dpdk;
@@ -54,7 +54,7 @@ fn main() -> std::process::ExitCode {
     let words: Vec<&str> = words.iter().map(String::as_str).collect();
     let (measure, files): (Measure, _) = match words[..] {
         ["count", ..] if words.len() > 1 => (measure::count, &words[1..]),
-        ["modes", ..] if words.len() > 1 => (measure::count_in_both_modes, &words[1..]),
+        ["modes", ..] if words.len() > 1 => (measure::count_in_every_mode, &words[1..]),
         ["time", ..] if words.len() > 1 => (measure::time, &words[1..]),
         _ => {
             eprintln!("usage: bench count|modes|time CORPUS [FILTER ..]");

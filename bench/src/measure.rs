@@ -3,10 +3,10 @@
 //!
 //! One translation of the Rust is `JitMemory::new` of the no-std form, with
 //! what it does inside: `Vec`s on the heap, hashing, assertions. Ours is one
-//! call of `ndakoleem_translate_3`. Neither allocates the page or clears it, and
+//! call of `ndakoleem_translate_4`. Neither allocates the page or clears it, and
 //! the Rust's map of helpers is made beforehand. DPDK's JIT is counted beside
 //! them on the programs that it takes; it maps a page of its own. The Rust has
-//! no standard mode: in it ours alone is counted.
+//! neither standard mode nor compact constants: with them ours alone is counted.
 
 use std::hint::black_box;
 use std::time::{Duration, Instant};
@@ -26,8 +26,10 @@ const RUST: u64 = 0;
 const OURS: u64 = 1;
 const DPDK: u64 = 2;
 const OURS_BESIDE_DPDK: u64 = 3;
-const OURS_IN_STANDARD_MODE: u64 = 4;
-const LABELS: u64 = 5;
+const OURS_IN_MODES: u64 = 4;
+const LABELS: u64 = OURS_IN_MODES + MODES.len() as u64;
+/// Standard mode and compact constants, off and on, in the order of the labels.
+const MODES: [(bool, bool); 4] = [(false, false), (false, true), (true, false), (true, true)];
 /// A timed row goes on for at least this long.
 const AT_LEAST: Duration = Duration::from_millis(200);
 
@@ -87,12 +89,13 @@ fn run_ours(
     let [locations, fields, targets, kinds, makers] = tables;
     let [l, f, t, k, m] = *entries;
     unsafe {
-        raw::ndakoleem_translate_3(
+        raw::ndakoleem_translate_4(
             case.program.as_ptr(),
             case.program.len(),
             case.use_mbuff,
             case.update_data_ptr,
             case.standard,
+            case.compact,
             case.helper_ids.as_ptr(),
             case.helper_ids.len(),
             case.helper_addresses.as_ptr(),
@@ -179,17 +182,18 @@ fn counted_beside_dpdk(label: u64, case: &Case, length: usize, lent: &mut Lent) 
     });
 }
 
-/// Ours without standard mode and in it, where both have the same verdict;
-/// tells whether they have.
-fn counted_in_both_modes(label: u64, case: &Case, length: usize, lent: &mut Lent) -> bool {
-    let standard = Case { standard: true, ..case.clone() };
+/// Ours in every mode, where all have the same verdict; tells whether they have.
+fn counted_in_every_mode(label: u64, case: &Case, length: usize, lent: &mut Lent) -> bool {
+    let cases = MODES.map(|(standard, compact)| Case { standard, compact, ..case.clone() });
     let (page, entries) = (&mut lent.our_page.0[..length], entries_of(case));
     let mut translate = |case| run_ours(case, page, &mut lent.tables, &entries);
-    if (translate(case).number == 0) != (translate(&standard).number == 0) {
+    let accepted = cases.each_ref().map(|case| translate(case).number == 0);
+    if accepted != [accepted[0]; MODES.len()] {
         return false;
     }
-    marked(label + OURS, || _ = black_box(translate(case)));
-    marked(label + OURS_IN_STANDARD_MODE, || _ = black_box(translate(&standard)));
+    for (mode, case) in (OURS_IN_MODES..).zip(&cases) {
+        marked(label + mode, || _ = black_box(translate(case)));
+    }
     true
 }
 
@@ -270,12 +274,12 @@ pub fn count(rows: &[Row]) -> Result<(), String> {
     Ok(())
 }
 
-pub fn count_in_both_modes(rows: &[Row]) -> Result<(), String> {
+pub fn count_in_every_mode(rows: &[Row]) -> Result<(), String> {
     let mut lent = Lent::new();
     marked(0, || ());
     for (label, row) in labelled(rows) {
         let mut cases = ready(row, &mut lent)?;
-        cases.retain(|(case, length)| counted_in_both_modes(label, case, *length, &mut lent));
+        cases.retain(|(case, length)| counted_in_every_mode(label, case, *length, &mut lent));
         println!("{}", line(label, row, &cases));
     }
     Ok(())

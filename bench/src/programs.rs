@@ -60,6 +60,7 @@ fn case_of(program: Vec<u8>) -> Case {
         use_mbuff: false,
         update_data_ptr: false,
         standard: false,
+        compact: false,
         code_len: PAGE,
         table_lens: [entries; 3],
         further_lens: Some([entries; 2]),
@@ -73,14 +74,14 @@ fn row(table: &'static str, name: impl Into<String>, program: Vec<u8>) -> Row {
     Row { table, name: name.into(), cases: vec![case_of(program)] }
 }
 
-/// The corpus's cases, without those in standard mode, which the Rust has not;
-/// `measure` leaves out those that are refused.
+/// The corpus's cases, without those in standard mode or with compact constants,
+/// which the Rust has not; `measure` leaves out those that are refused.
 fn corpus(name: &str) -> Result<Row, String> {
     let file = std::fs::File::open(name).map_err(|error| format!("cannot open {name}: {error}"))?;
     let mut records = stream::case_records(std::io::BufReader::new(file));
     let mut cases = Vec::new();
     while let Some(case) = records.next_case()? {
-        if !case.standard {
+        if !case.standard && !case.compact {
             cases.push(case);
         }
     }
@@ -109,7 +110,7 @@ fn refused_at_last(slots: usize) -> Vec<u8> {
 /// 256 slots of one kind each; a row's cost over 256 is a slot's.
 fn kinds() -> Vec<Row> {
     let div = slot(ebpf::DIV64_REG, 3, 4, 0, 0);
-    let kinds: [(&str, [u8; 8]); 18] = [
+    let kinds: [(&str, [u8; 8]); 19] = [
         ("LE (no bytes)", slot(ebpf::LE, 2, 0, 0, 64)),
         ("EXIT", slot(ebpf::EXIT, 0, 0, 0, 0)),
         ("MOV64_REG", slot(ebpf::MOV64_REG, 6, 1, 0, 0)),
@@ -129,8 +130,15 @@ fn kinds() -> Vec<Row> {
         ("LE 16", slot(ebpf::LE, 2, 0, 0, 16)),
         ("MOV32_REG", slot(ebpf::MOV32_REG, 6, 1, 0, 0)),
         ("MOD32_REG", slot(ebpf::MOD32_REG, 3, 4, 0, 0)),
+        // Beside MOV64_IMM and DIV64_REG, those that compact constants change.
+        ("MUL64_IMM", slot(ebpf::MUL64_IMM, 3, 0, 0, 3)),
     ];
-    kinds.map(|(name, bytes)| row("kinds", name, bytes.repeat(256))).into()
+    let mut rows: Vec<Row> =
+        kinds.map(|(name, bytes)| row("kinds", name, bytes.repeat(256))).into();
+    // An IPv4 address that no signed 32-bit immediate holds.
+    let load = [slot(ebpf::LD_DW_IMM, 2, 0, 0, 0xc000_0201_u32 as i32), [0; 8]].concat();
+    rows.push(row("kinds", "LD_DW_IMM (2 slots)", load.repeat(128)));
+    rows
 }
 
 pub fn rows(corpus_file: &str, filter_files: &[&str]) -> Result<Vec<Row>, String> {

@@ -1,5 +1,6 @@
 """Compiles the filters of list.txt to bytecode, NAME.bin, which is stored beside them so that nothing else needs a compiler.
-`examples/filters/build` starts it, and `--check` compares what it compiles with what is stored.
+`examples/filters/build` starts it, and `--check` compares what it compiles with what is stored. bench/bytes.py compiles filters of its own
+with it.
 
 The bytecode is the section .text, eight bytes a slot, in which a call of a function of the same file counts from the slot behind the
 call. A filter that needs anything from outside that section (a global variable, a map) is an error here.
@@ -28,7 +29,7 @@ def fail(text):
 
 def compiled(f, folder):
     made = os.path.join(folder, f.name + ".o")
-    done = subprocess.run([COMPILER, "-O2", "-Wall", "-Werror", "-target", "bpfel", "-mcpu=" + f.cpu, "-c",
+    done = subprocess.run([COMPILER, "-O2", "-Wall", "-Werror", "-target", "bpfel", "-mcpu=" + f.cpu, "-I", HERE, "-c",
                            os.path.join(HERE, f.source), "-o", made])
     if done.returncode:
         fail("%s does not compile" % f.source)
@@ -88,4 +89,5 @@ def main():
         fail("%d filters differ from what is stored" % different)
 
 
-main()
+if __name__ == "__main__":
+    main()

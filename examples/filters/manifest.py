@@ -1,4 +1,4 @@
-"""Reads list.txt, the list of the filters here: for the scripts of this folder and for exec-test."""
+"""Reads list.txt, the list of the filters here: for the scripts of this folder, for exec-test and for bench."""
 
 import os
 

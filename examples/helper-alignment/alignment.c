@@ -1,5 +1,6 @@
 /* How a page enters its helpers, and that NDAKOLEEM_HELPER makes it right: three filters call a helper, outside local calls, inside one and
- * inside two of them. Prints one line for each filter and helper, and `N passed, 0 failed`. */
+ * inside two of them, by an address that is loaded as in rbpf, and by a compact constant. Prints one line for each filter, helper and kind of
+ * constants, and `N passed, 0 failed`. */
 #include <stdio.h>
 #include <stdlib.h>
 #include <string.h>
@@ -50,14 +51,14 @@ static size_t filter(uint8_t *to, int local_calls) {
     return length + sizeof helper;
 }
 
-static uint64_t called(void *helper, int local_calls) {
+static uint64_t called(void *helper, int local_calls, bool compact) {
     static struct ndakoleem_memory memory;
     struct ndakoleem_buffers lent = ndakoleem_lend(&memory);
     uint8_t program[128];
     const uint32_t ids[] = {7};
     const uint64_t addresses[] = {(uint64_t)helper};
     size_t length = filter(program, local_calls);
-    struct ndakoleem_flags flags = {.use_mbuff = false};
+    struct ndakoleem_flags flags = {.compact = compact};
     struct ndakoleem_translation done = ndakoleem_translate_into(program, length, flags, ids, 1, addresses, 1, &lent);
     void *page = mmap(NULL, NDAKOLEEM_CODE_MIN, PROT_READ | PROT_WRITE, MAP_PRIVATE | MAP_ANONYMOUS, -1, 0);
     if (done.number != NDAKOLEEM_ACCEPTED || page == MAP_FAILED) {
@@ -81,15 +82,16 @@ int main(void) {
         {"what a plain helper calls", (void *)plain, {0, 8, 0}},
         {"what an aligned helper calls", (void *)aligned, {8, 8, 8}},
     };
+    enum { ROWS = sizeof rows / sizeof rows[0], CALLS = 3 };
     int passed = 0, failed = 0;
-    for (size_t row = 0; row < sizeof rows / sizeof rows[0]; row += 1) {
-        for (int local_calls = 0; local_calls < 3; local_calls += 1) {
-            unsigned got = (unsigned)(called(rows[row].helper, local_calls) % 16);
-            int good = got == rows[row].want[local_calls];
-            printf("%-30s inside %d local calls: RSP %u modulo 16%s\n", rows[row].what, local_calls, got, good ? "" : ", not as said");
-            passed += good;
-            failed += !good;
-        }
+    for (int at = 0; at < 2 * ROWS * CALLS; at += 1) {
+        int compact = at / (ROWS * CALLS), row = at / CALLS % ROWS, local_calls = at % CALLS;
+        unsigned got = (unsigned)(called(rows[row].helper, local_calls, compact) % 16);
+        int good = got == rows[row].want[local_calls];
+        printf("%-30s inside %d local calls, %-18s RSP %u modulo 16%s\n", rows[row].what, local_calls,
+               compact ? "compact constants:" : "rbpf's constants:", got, good ? "" : ", not as said");
+        passed += good;
+        failed += !good;
     }
     printf("%d passed, %d failed\n", passed, failed);
     return failed != 0;

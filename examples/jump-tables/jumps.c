@@ -1,5 +1,5 @@
 /* What the jump tables say of a filter with a jump of every kind, and that ndakoleem.h lends each table in its place. Prints one line for each
- * jump, and `N passed, 0 failed`. */
+ * jump, without compact constants and with them, and `N passed, 0 failed`. */
 #include <stdio.h>
 #include <string.h>
 
@@ -41,9 +41,10 @@ static void say(const char *what, bool good) {
     failed += !good;
 }
 
-static struct ndakoleem_translation translated(const struct ndakoleem_buffers *lent) {
-    static struct ndakoleem_flags none; /* off in C as in C++ */
-    return ndakoleem_translate_into(filter, sizeof filter, none, NULL, 0, NULL, 0, lent);
+static struct ndakoleem_translation translated(const struct ndakoleem_buffers *lent, bool compact) {
+    static struct ndakoleem_flags flags; /* off in C as in C++ */
+    flags.compact = compact;
+    return ndakoleem_translate_into(filter, sizeof filter, flags, NULL, 0, NULL, 0, lent);
 }
 
 /* "slot 2: conditional, to slot 7", and the same of the prologue and the exit. */
@@ -67,27 +68,50 @@ static bool are_marked(const struct ndakoleem_memory *memory, size_t entries, si
            is_marked(memory->kinds, jumps) && is_marked(memory->makers, jumps);
 }
 
-int main(void) {
-    static struct ndakoleem_memory memory;
-    struct ndakoleem_buffers lent = ndakoleem_lend(&memory);
-    memset(&memory, mark & 0xff, sizeof memory);
+/* What a jump's field holds: the distance from its end to the target. */
+static uint32_t distance(const struct ndakoleem_memory *memory, size_t at) {
+    const uint8_t *field = memory->code + memory->fields[at];
+    return field[0] | (uint32_t)field[1] << 8 | (uint32_t)field[2] << 16 | (uint32_t)field[3] << 24;
+}
 
-    /* A caller who knows of three tables only. */
-    struct ndakoleem_buffers three = lent;
+/* A jump to a slot goes to where the table of locations has it. */
+static bool lands(const struct ndakoleem_memory *memory, size_t at) {
+    uint32_t target = memory->targets[at];
+    return target == NDAKOLEEM_EXIT_TARGET || memory->fields[at] + 4 + distance(memory, at) == memory->locations[target];
+}
+
+/* A caller who knows of three tables only. */
+static void refuse_three(struct ndakoleem_memory *memory) {
+    struct ndakoleem_buffers three = ndakoleem_lend(memory);
     three.kinds = three.makers = NULL;
     three.kinds_length = three.makers_length = 0;
-    struct ndakoleem_translation done = translated(&three);
-    say("three tables: refused", done.number == NDAKOLEEM_TABLE_TOO_SHORT && are_marked(&memory, 0, 0));
+    struct ndakoleem_translation done = translated(&three, false);
+    say("three tables: refused", done.number == NDAKOLEEM_TABLE_TOO_SHORT && are_marked(memory, 0, 0));
+}
 
-    done = translated(&lent);
-    say("five tables: accepted", done.number == NDAKOLEEM_ACCEPTED && done.jumps == JUMPS);
+/* Gives the code's length. */
+static size_t accept_five(struct ndakoleem_memory *memory, bool compact) {
+    struct ndakoleem_buffers five = ndakoleem_lend(memory);
+    struct ndakoleem_translation done = translated(&five, compact);
+    bool good = done.number == NDAKOLEEM_ACCEPTED && done.jumps == JUMPS;
+    say(compact ? "five tables, compact constants: accepted" : "five tables: accepted", good);
     for (size_t at = 0; at < JUMPS; at += 1) {
-        uint32_t maker = memory.makers[at], kind = memory.kinds[at], target = memory.targets[at];
+        uint32_t maker = memory->makers[at], kind = memory->kinds[at], target = memory->targets[at];
         char name[128];
         name_jump(name, sizeof name, maker, kind, target);
-        say(name, maker == wanted[at].maker && kind == wanted[at].kind && target == wanted[at].target);
+        say(name, maker == wanted[at].maker && kind == wanted[at].kind && target == wanted[at].target && lands(memory, at));
     }
-    say("behind them: as it was", are_marked(&memory, SLOTS + 1, JUMPS));
+    say("behind them: as it was", are_marked(memory, SLOTS + 1, JUMPS));
+    return done.length;
+}
+
+int main(void) {
+    static struct ndakoleem_memory memory;
+    memset(&memory, mark & 0xff, sizeof memory);
+    refuse_three(&memory);
+    size_t longer = accept_five(&memory, false);
+    memset(&memory, mark & 0xff, sizeof memory);
+    say("compact constants: shorter code", accept_five(&memory, true) < longer);
     printf("%d passed, %d failed\n", passed, failed);
     return failed != 0;
 }

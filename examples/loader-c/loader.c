@@ -1,11 +1,11 @@
 /* A loader in C: reads a filter, has it translated, maps its page, and runs it over the packets of a pcap.
  *
- *   loader [--raw] [--standard] FILTER PCAP
+ *   loader [--raw] [--standard] [--compact] FILTER PCAP
  *
  * FILTER is bytecode, eight bytes a slot. r1 of the filter is a struct packet, the addresses of the packet's first byte and of the byte behind
- * its last; with --raw it is the packet itself, with zeros behind it up to 64 bytes at least. --standard has it translated in standard mode.
- * What the filter gives is the verdict: 0 turns the packet down, anything else keeps it. A filter is run as it is: one that reads outside the
- * packet or never ends takes the loader with it. */
+ * its last; with --raw it is the packet itself, with zeros behind it up to 64 bytes at least. --standard has it translated in standard mode,
+ * --compact with compact constants. What the filter gives is the verdict: 0 turns the packet down, anything else keeps it. A filter is run as
+ * it is: one that reads outside the packet or never ends takes the loader with it. */
 #include <stdbool.h>
 #include <stdio.h>
 #include <stdlib.h>
@@ -126,17 +126,19 @@ static void run(page_function page, bool raw, const char *name) {
 }
 
 int main(int count, char **words) {
-    bool raw = false, standard = false;
+    bool raw = false, standard = false, compact = false;
     int at = 1;
     for (; at < count; at += 1) {
         if (strcmp(words[at], "--raw") == 0) raw = true;
         else if (strcmp(words[at], "--standard") == 0) standard = true;
+        else if (strcmp(words[at], "--compact") == 0) compact = true;
         else break;
     }
     if (count - at != 2) {
-        fprintf(stderr, "usage: loader [--raw] [--standard] FILTER PCAP\n");
+        fprintf(stderr, "usage: loader [--raw] [--standard] [--compact] FILTER PCAP\n");
         return 2;
     }
-    run(load(words[at], (struct ndakoleem_flags){.use_mbuff = !raw, .standard = standard}), raw, words[at + 1]);
+    struct ndakoleem_flags flags = {.use_mbuff = !raw, .standard = standard, .compact = compact};
+    run(load(words[at], flags), raw, words[at + 1]);
     return 0;
 }

@@ -1,15 +1,15 @@
 //! A loader in Rust: reads a filter, has it translated, maps its page, and
 //! runs it over the packets of a pcap.
 //!
-//!     loader [--raw] [--standard] FILTER PCAP
+//!     loader [--raw] [--standard] [--compact] FILTER PCAP
 //!
 //! FILTER is bytecode, eight bytes a slot. r1 of the filter is a `Packet`, the
 //! addresses of the packet's first byte and of the byte behind its last; with
 //! --raw it is the packet itself, with zeros behind it up to 64 bytes at
-//! least. --standard has it translated in standard mode. What the filter gives
-//! is the verdict: 0 turns the packet down, anything else keeps it. A filter
-//! is run as it is: one that reads outside the packet or never ends takes the
-//! loader with it.
+//! least. --standard has it translated in standard mode, --compact with compact
+//! constants. What the filter gives is the verdict: 0 turns the packet down,
+//! anything else keeps it. A filter is run as it is: one that reads outside the
+//! packet or never ends takes the loader with it.
 
 use std::error::Error;
 use std::process::ExitCode;
@@ -152,20 +152,21 @@ fn run(page: PageFunction, raw: bool, name: &str) -> Outcome<()> {
 
 fn main() -> ExitCode {
     let words: Vec<String> = std::env::args().skip(1).collect();
-    let (mut raw, mut standard, mut names) = (false, false, &words[..]);
+    let (mut raw, mut standard, mut compact, mut names) = (false, false, false, &words[..]);
     while let [word, behind @ ..] = names {
         match word.as_str() {
             "--raw" => raw = true,
             "--standard" => standard = true,
+            "--compact" => compact = true,
             _ => break,
         }
         names = behind;
     }
     let [filter, pcap] = names else {
-        eprintln!("usage: loader [--raw] [--standard] FILTER PCAP");
+        eprintln!("usage: loader [--raw] [--standard] [--compact] FILTER PCAP");
         return 2.into();
     };
-    let flags = Flags { use_mbuff: !raw, standard, ..Flags::default() };
+    let flags = Flags { use_mbuff: !raw, standard, compact, ..Flags::default() };
     match load(filter, flags).and_then(|page| run(page, raw, pcap)) {
         Ok(()) => 0.into(),
         Err(sentence) => {

@@ -9,7 +9,7 @@ use std::io::{self, BufReader, BufWriter, Read, Write};
 
 use crate::judge::Judge;
 use crate::stream::{self, Answer, Case, Records, Translation};
-use crate::{corpus as list, generate, standard};
+use crate::{compact, corpus as list, generate, standard};
 
 type Status = Result<u8, String>;
 
@@ -83,10 +83,12 @@ pub fn show() -> Status {
     each_case(|out, at, case, answer| {
         writeln!(
             out,
-            "case {at}: use_mbuff {}, update_data_ptr {}, standard {}, page {}, tables {:?}",
+            "case {at}: use_mbuff {}, update_data_ptr {}, standard {}, compact {}, page {}, \
+            tables {:?}",
             case.use_mbuff,
             case.update_data_ptr,
             case.standard,
+            case.compact,
             case.code_len,
             case.given_lens()
         )?;
@@ -150,14 +152,24 @@ pub fn count() -> Status {
     say(&table)
 }
 
-pub fn standard() -> Status {
-    let (mut in_standard_mode, mut changed) = (0u64, 0u64);
+pub fn modes() -> Status {
+    const NAMES: [&str; 5] = ["standard", "changed", "compact", "shortened", "both"];
+    let mut counts = [0u64; NAMES.len()];
     let mut cases = stream::case_records(input());
     while let Some(case) = cases.next_case()? {
-        in_standard_mode += case.standard as u64;
-        changed += (case.standard && standard::changes(&case.program)) as u64;
+        let counted = [
+            case.standard,
+            case.standard && standard::changes(&case.program),
+            case.compact,
+            case.compact && compact::changes(&case),
+            case.standard && case.compact,
+        ];
+        for (count, counted) in counts.iter_mut().zip(counted) {
+            *count += counted as u64;
+        }
     }
-    say(&format!("standard   {in_standard_mode:>10}\nchanged    {changed:>10}\n"))
+    let lines = NAMES.iter().zip(counts).map(|(name, count)| format!("{name:<10} {count:>10}\n"));
+    say(&lines.collect::<String>())
 }
 
 fn open(name: &str) -> Result<Records<impl Read>, String> {

@@ -1,9 +1,11 @@
 //! The fixed list of cases: every opcode, register, edge and refusal in turn,
 //! then a random part from a fixed seed, then the limits once more, then cases
-//! with five tables, then cases in standard mode.
+//! with five tables, then cases in standard mode, then cases in compact mode.
 //!
 //! Each function gives one part; `cases` puts them one behind the other. The
 //! list is the same on every machine.
+
+use std::convert::identity;
 
 use crate::ebpf;
 use crate::generate::{Form, Generator};
@@ -16,7 +18,7 @@ use crate::slots::{
     plain_case, slot, wide, Opcodes, BAD_SWAPS, CONSTANTS, IDS, IMMS, LAST_REGISTER, OFFS,
 };
 use crate::stream::{Answer, Case, HELPER_LIMIT};
-use crate::{five, limits, standard_cases};
+use crate::{compact_cases, five, limits, standard_cases};
 
 const RANDOM_SEED: u64 = 1;
 const RANDOM_COUNT: u64 = 2_000;
@@ -45,13 +47,13 @@ pub fn cases() -> Result<Vec<Case>, String> {
     list.extend(refusal_order());
     list.extend(page_ends(&mut judge, &opcodes)?);
     let mut generator = Generator::new()?;
-    let form = Form { five_tables: false, standard: false };
     for at in 0..RANDOM_COUNT {
-        list.push(generator.formed(form, RANDOM_SEED, at)?);
+        list.push(generator.formed(Form::default(), RANDOM_SEED, at)?);
     }
     list.extend(limits::cases());
     list.extend(five::cases(&mut judge, &opcodes, &mut generator)?);
     list.extend(standard_cases::cases(&mut judge, &opcodes, &mut generator)?);
+    list.extend(compact_cases::cases(&mut judge, &opcodes, &mut generator)?);
     Ok(list)
 }
 
@@ -379,11 +381,11 @@ fn refusal_order() -> Vec<Case> {
     list
 }
 
-/// Slots whose code comes to `len` bytes, with no jump but to the next slot.
-fn filler(len: usize) -> Vec<[u8; 8]> {
-    let long = slot(ebpf::DIV64_REG, 4, 5, 0, 0);
-    let mut slots = vec![long; len / SLOT_LONGEST];
-    slots.extend(vec![EXIT; len % SLOT_LONGEST]);
+/// Slots whose code comes to `len` bytes: of one kind, whose length goes with
+/// it, as many as there may be, and EXIT.
+fn filler((long, long_len): ([u8; 8], usize), len: usize) -> Vec<[u8; 8]> {
+    let mut slots = vec![long; len / long_len];
+    slots.extend(vec![EXIT; len % long_len]);
     slots
 }
 
@@ -413,7 +415,7 @@ fn page_ends(judge: &mut Judge, opcodes: &Opcodes) -> Result<Vec<Case>, String> 
     ];
     let mut list = Vec::new();
     for last in last_slots(opcodes) {
-        let len = code_len_alone(judge, &last, false)?;
+        let len = code_len_alone(judge, &last, identity)?;
         let excesses = match at_every_byte.contains(&last[0][0]) {
             true => (0..=EPILOGUE + len).collect(),
             false => vec![0, 1, EPILOGUE, EPILOGUE + 1, EPILOGUE + len],
@@ -425,21 +427,32 @@ fn page_ends(judge: &mut Judge, opcodes: &Opcodes) -> Result<Vec<Case>, String> 
     Ok(list)
 }
 
-/// The length of the code of these slots.
+/// The length of the code of these slots in a mode.
 pub fn code_len_alone(
     judge: &mut Judge,
     slots: &[[u8; 8]],
-    standard: bool,
+    mode: fn(Case) -> Case,
 ) -> Result<usize, String> {
-    match judge.answer(&Case { standard, ..with_helper(case_of(slots), 0) })? {
+    match judge.answer(&mode(with_helper(case_of(slots), 0)))? {
         Answer::Accepted(alone) => Ok(alone.code.len() - PROLOGUE - EPILOGUE),
         Answer::Refused { .. } => Err(format!("the slots {slots:02x?} are not accepted alone")),
     }
 }
 
 /// The smallest page with a program that ends in these slots, whose code has
-/// `len` bytes, and has so many bytes too many: with 0 the epilogue fits.
+/// `len` bytes, and has so many bytes too many: with 0 the epilogue fits. Ahead
+/// of them are slots of the longest code, which jump to the next slot alone.
 pub fn page_end(last: &[[u8; 8]], len: usize, excess: usize) -> Case {
+    page_end_behind((slot(ebpf::DIV64_REG, 4, 5, 0, 0), SLOT_LONGEST), last, len, excess)
+}
+
+/// The same behind slots of another kind.
+pub fn page_end_behind(
+    long: ([u8; 8], usize),
+    last: &[[u8; 8]],
+    len: usize,
+    excess: usize,
+) -> Case {
     let room = CODE_MIN as usize + excess - PROLOGUE - EPILOGUE - len;
-    with_helper(case_of(&[&filler(room), last].concat()), 0)
+    with_helper(case_of(&[&filler(long, room), last].concat()), 0)
 }

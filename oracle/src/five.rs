@@ -2,11 +2,13 @@
 //! the maker of every listed jump. It stands behind the limits, so that the
 //! cases ahead of it keep their numbers.
 
+use std::convert::identity;
+
 use crate::corpus::{bad_slots, case_of, code_len_alone, page_end, with_helper, EXIT, FLAG_PAIRS};
 use crate::ebpf;
 use crate::generate::{Form, Generator};
 use crate::judge::Judge;
-use crate::limits::{codeless, local_call, roomy};
+use crate::limits::{codeless, local_call, longest_program, roomy};
 use crate::sizes::{
     ANCHOR, CODE_LONGEST, CODE_MAX, CODE_MIN, EPILOGUE, PROGRAM_MAX, SLOTS_MAX, TABLE_AMPLE,
 };
@@ -48,7 +50,7 @@ pub fn cases(
         full_pages(judge)?,
     ];
     list.extend(jumps.concat().into_iter().map(five_tables));
-    let form = Form { five_tables: true, standard: false };
+    let form = Form { five_tables: true, ..Form::default() };
     for at in 0..RANDOM_COUNT {
         list.push(generator.formed(form, RANDOM_SEED, at)?);
     }
@@ -106,12 +108,7 @@ fn every_two(lens: &[u32]) -> Vec<(u32, u32)> {
 fn longest_programs() -> Vec<Case> {
     let n = SLOTS_MAX as u32;
     let bare = roomy(&codeless(PROGRAM_MAX));
-    let full = Case {
-        code_len: CODE_LONGEST as u32,
-        use_mbuff: true,
-        update_data_ptr: true,
-        ..plain_case(&slot(ebpf::DIV64_REG, 4, 5, 0, 0).repeat(SLOTS_MAX))
-    };
+    let full = longest_program(slot(ebpf::DIV64_REG, 4, 5, 0, 0), CODE_LONGEST);
     let mut list = vec![but(&bare, &[]), but(&full, &[])];
     for [one, other] in [[KINDS, MAKERS], [LOCATIONS, KINDS], [TARGETS, MAKERS]] {
         list.push(but(&bare, &[(one, n), (other, n)]));
@@ -292,7 +289,7 @@ fn full_pages(judge: &mut Judge) -> Result<Vec<Case>, String> {
     // The call of the exit is another in every slot.
     let [any_slot @ .., _] = jumping(0);
     for last in any_slot {
-        let len = code_len_alone(judge, &[last], false)?;
+        let len = code_len_alone(judge, &[last], identity)?;
         for excess in [0, 1, EPILOGUE + 1] {
             list.push(page_end(&[last], len, excess));
         }

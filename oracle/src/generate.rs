@@ -28,16 +28,18 @@ pub struct Generator {
 }
 
 /// What is settled of a case before anything is drawn.
-#[derive(Clone, Copy)]
+#[derive(Clone, Copy, Default)]
 pub struct Form {
     pub five_tables: bool,
     pub standard: bool,
+    pub compact: bool,
 }
 
 impl Form {
-    /// Every second case has five tables, every third is in standard mode.
+    /// Every second case has five tables, every third is in standard mode, and
+    /// six of every twelve are in compact mode, whatever else they are.
     pub fn of(at: u64) -> Form {
-        Form { five_tables: at % 2 == 1, standard: at % 3 == 2 }
+        Form { five_tables: at % 2 == 1, standard: at % 3 == 2, compact: at % 12 >= 6 }
     }
 }
 
@@ -55,7 +57,7 @@ impl Generator {
     pub fn formed(&mut self, form: Form, seed: u64, at: u64) -> Result<Case, String> {
         let Generator { judge, opcodes } = self;
         let random = &mut Random::new(seed, at);
-        let case = Maker { judge, opcodes, standard: form.standard }.case(random)?;
+        let case = Maker { judge, opcodes, form }.case(random)?;
         if !form.five_tables {
             return Ok(case);
         }
@@ -68,7 +70,7 @@ impl Generator {
 struct Maker<'a> {
     judge: &'a mut Judge,
     opcodes: &'a Opcodes,
-    standard: bool,
+    form: Form,
 }
 
 impl Maker<'_> {
@@ -147,9 +149,14 @@ impl Maker<'_> {
     fn page_cut_to_code(&mut self, random: &mut Random) -> Result<Case, String> {
         let fat = !random.one_in(3);
         let n = if fat { 120 + random.below(60) } else { 420 + random.below(160) };
+        let n = self.for_a_page(n);
         let (case, page) = self.translated(random, n, n, fat)?;
         let Some(page) = page else { return Ok(case) };
-        let end = if random.one_in(2) {
+        let end = if self.form.compact && random.one_in(3) {
+            let len = page.code.len() as i64;
+            // Not long enough without compact mode.
+            random.between(len, self.len_without_compact_mode(&case)?.max(len))
+        } else if random.one_in(2) {
             page.code.len() as i64 + random.between(-3, 3)
         } else {
             random.pick(&page.locations) as i64 + random.between(-45, 45)
@@ -158,10 +165,27 @@ impl Maker<'_> {
         Ok(self.sometimes_spoiled(random, Case { code_len, ..case }))
     }
 
+    /// So many slots, or as many as have about as much code in compact mode,
+    /// where loads are many and short.
+    fn for_a_page(&self, n: usize) -> usize {
+        if self.form.compact {
+            n * 3 / 2
+        } else {
+            n
+        }
+    }
+
+    fn len_without_compact_mode(&mut self, case: &Case) -> Result<i64, String> {
+        match self.judge.answer(&Case { compact: false, ..case.clone() })? {
+            Answer::Accepted(page) => Ok(page.code.len() as i64),
+            Answer::Refused { .. } => Err("compact mode accepts what is refused".to_string()),
+        }
+    }
+
     /// A program whose code is made to end near the end of the smallest page.
     fn code_trimmed_to_page(&mut self, random: &mut Random) -> Result<Case, String> {
         let fat = !random.one_in(4);
-        let n = if fat { 230 } else { 700 };
+        let n = self.for_a_page(if fat { 230 } else { 700 });
         let (case, page) = self.translated(random, n, TRIMMED_REACH, fat)?;
         let Some(page) = page else { return Ok(case) };
         let nearly = random.between(-3, 3);
@@ -235,7 +259,8 @@ impl Maker<'_> {
     }
 
     fn setting<'b>(&'b self, helper_ids: &'b [u32], reach: usize, fat: bool) -> Setting<'b> {
-        Setting { opcodes: self.opcodes, helper_ids, reach, fat, standard: self.standard }
+        let Form { standard, compact, .. } = self.form;
+        Setting { opcodes: self.opcodes, helper_ids, reach, fat, standard, compact }
     }
 
     /// A program in a frame that has room for it.
@@ -258,7 +283,8 @@ impl Maker<'_> {
         Case {
             use_mbuff: flags & 1 != 0,
             update_data_ptr: flags & 2 != 0,
-            standard: self.standard,
+            standard: self.form.standard,
+            compact: self.form.compact,
             code_len,
             table_lens: [0; 3].map(|_| entries + random.pick(&[0, 0, 0, 1, 2, 100])),
             further_lens: None,

@@ -4,14 +4,16 @@
 //! What is translated, and to which bytes, the Rust alone decides. The oracle
 //! adds a few lines: refusals 2 to 5, which the Rust does not have, the names of
 //! the Rust's own endings, which are error texts and panic texts there and
-//! numbers here, the kinds and makers of `jumps.rs`, and in standard mode what
-//! `standard.rs` says. An ending that has no number is a failure of the oracle,
-//! said in a sentence; it is never guessed at.
+//! numbers here, the kinds and makers of `jumps.rs`, and in standard and compact
+//! mode what `modes.rs` says. An ending that has no number is a failure of the
+//! oracle, said in a sentence; it is never guessed at.
+
+use std::fmt::Debug;
 
 use crate::observe::{self, debug_number, Panic, Seen, NO_LOCATION};
 use crate::sizes::{CODE_MAX, CODE_MIN, EPILOGUE, EXIT_ANCHOR, HELPERS_MAX, PROGRAM_MAX};
 use crate::stream::{Answer, Case, Translation};
-use crate::{ebpf, jit, jumps, standard, HashMap};
+use crate::{ebpf, jit, jumps, modes, Error, HashMap};
 
 /// Bytes behind the code buffer that are watched as well.
 const GUARD: usize = 64;
@@ -45,8 +47,12 @@ const ENDINGS: [(Place, &str, u8); 10] = [
     (PanicIn("jit.rs"), NO_LOCATION, 14),
 ];
 
+/// Runs a case on a page: the code's length, or the error's text.
+type Translate = fn(&Case, &mut [u8]) -> Result<usize, String>;
+
 /// Answers cases, one after the other, on one page.
 pub struct Judge {
+    translate: Translate,
     page: Box<Page>,
     /// What the page holds before a run.
     pattern: Vec<u8>,
@@ -54,22 +60,26 @@ pub struct Judge {
 
 impl Judge {
     pub fn new() -> Judge {
+        Judge::by(translate)
+    }
+
+    pub fn by(translate: Translate) -> Judge {
         let pattern = (0..CODE_MAX as usize + GUARD).map(|at| (at * 167 + 13 + at / 256) as u8);
-        Judge { page: Box::new(Page([0; CODE_MAX as usize + GUARD])), pattern: pattern.collect() }
+        let page = Box::new(Page([0; CODE_MAX as usize + GUARD]));
+        Judge { translate, page, pattern: pattern.collect() }
     }
 
     /// The answer to a case, or a sentence about what the oracle cannot
     /// account for.
     pub fn answer(&mut self, case: &Case) -> Result<Answer, String> {
-        if case.standard {
-            return standard::answer(self, case);
+        if case.standard || case.compact {
+            return modes::answer(self, case);
         }
         let (answer, _) = self.rbpf(case)?;
         Ok(answer)
     }
 
-    /// What rbpf makes of a case, standard mode or not, and the notes of its
-    /// run.
+    /// What rbpf makes of a case, whatever its mode, and the notes of its run.
     pub fn rbpf(&mut self, case: &Case) -> Result<(Answer, Seen), String> {
         // Refusal 1 comes ahead of 2 to 5, and is the Rust's own.
         if case.code_len >= CODE_MIN {
@@ -79,7 +89,8 @@ impl Judge {
         }
         let lent = case.code_len as usize;
         self.page.0[..lent + GUARD].copy_from_slice(&self.pattern[..lent + GUARD]);
-        let (ending, seen) = observe::watch(|| translate(case, &mut self.page.0[..lent]));
+        let Judge { translate, page, .. } = self;
+        let (ending, seen) = observe::watch(|| translate(case, &mut page.0[..lent]));
         self.untouched(lent, lent + GUARD, "behind the code buffer")?;
         let answer = match ending {
             Ok(Ok(len)) => self.accepted(case, &seen, len),
@@ -87,6 +98,11 @@ impl Judge {
             Err(panic) => refused(case, &seen, place_of(&panic), &panic.text),
         };
         Ok((answer?, seen))
+    }
+
+    /// The first bytes of what the last run has left in the page.
+    pub fn left(&self, len: usize) -> &[u8] {
+        &self.page.0[..len]
     }
 
     fn untouched(&self, from: usize, to: usize, where_: &str) -> Result<(), String> {
@@ -149,11 +165,15 @@ fn helpers_are_good(ids: &[u32], addresses: &[u64]) -> bool {
     ids.len() == addresses.len() && ids.len() <= HELPERS_MAX && !twice
 }
 
-/// The run itself: the code's length, or the error's text.
+/// The run by rbpf.
 fn translate(case: &Case, page: &mut [u8]) -> Result<usize, String> {
     let helpers = HashMap::of_helpers(&case.helper_ids, &case.helper_addresses);
-    let made =
-        jit::JitMemory::new(&case.program, page, &helpers, case.use_mbuff, case.update_data_ptr);
+    let Case { program, use_mbuff, update_data_ptr, .. } = case;
+    told(jit::JitMemory::new(program, page, &helpers, *use_mbuff, *update_data_ptr))
+}
+
+/// What a finished run tells.
+pub fn told(made: Result<impl Debug, Error>) -> Result<usize, String> {
     match made {
         Ok(memory) => Ok(debug_number(&format!("{memory:?}"), "offset: ") as usize),
         Err(error) => Err(error.0),

@@ -33,6 +33,17 @@ pub fn roomy(program: &[u8]) -> Case {
     Case { code_len: CODE_MAX, ..plain_case(program) }
 }
 
+/// The longest program, of one slot, under both flags, in a page of so many
+/// bytes.
+pub fn longest_program(of: [u8; 8], code_len: usize) -> Case {
+    Case {
+        code_len: code_len as u32,
+        use_mbuff: true,
+        update_data_ptr: true,
+        ..plain_case(&of.repeat(SLOTS_MAX))
+    }
+}
+
 // ---- helpers ---------------------------------------------------------------
 
 /// Each its own; the first half loads as C7, the second as B8.
@@ -141,11 +152,8 @@ fn pages() -> Vec<Case> {
         list.push(Case { code_len, ..case_of(&[]) });
         list.push(Case { code_len, use_mbuff: true, update_data_ptr: true, ..case_of(&[EXIT]) });
     }
-    let longest = slot(ebpf::DIV64_REG, 4, 5, 0, 0).repeat(SLOTS_MAX);
-    for code_len in [CODE_LONGEST as u32 - 1, CODE_LONGEST as u32] {
-        let case = plain_case(&longest);
-        list.push(Case { code_len, use_mbuff: true, update_data_ptr: true, ..case });
-    }
+    let longest = slot(ebpf::DIV64_REG, 4, 5, 0, 0);
+    list.extend([CODE_LONGEST - 1, CODE_LONGEST].map(|len| longest_program(longest, len)));
     list
 }
 

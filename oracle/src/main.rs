@@ -4,12 +4,15 @@
 //! the choice of a command. `commands.rs` does what the commands say.
 
 mod commands;
+mod compact;
+mod compact_cases;
 mod corpus;
 mod five;
 mod generate;
 mod judge;
 mod jumps;
 mod limits;
+mod modes;
 mod observe;
 mod program;
 mod random;
@@ -46,8 +49,9 @@ usage: oracle COMMAND
   cases SEED COUNT    COUNT random cases on standard output
   corpus              the fixed list of cases on standard output
   count               answers on standard input, counted by refusal number
-  standard            cases on standard input, counted: those in standard mode,
-                      and of these those with a slot that it changes
+  modes               cases on standard input, counted: those in standard mode
+                      and those in compact mode, of each those with a slot
+                      that it changes, and those in both modes
   diff A B            two files of answers, compared case by case;
                       exit status 1 where they differ
 ";
@@ -61,7 +65,7 @@ fn main() -> std::process::ExitCode {
         ["cases", seed, count] => commands::cases(seed, count),
         ["corpus"] => commands::corpus(),
         ["count"] => commands::count(),
-        ["standard"] => commands::standard(),
+        ["modes"] => commands::modes(),
         ["diff", one, other] => commands::diff(one, other),
         ["help" | "--help" | "-h"] => commands::say(USAGE),
         _ => {

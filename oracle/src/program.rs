@@ -31,6 +31,27 @@ const FAVOURED: [u8; 18] = [
 /// Those that standard mode changes, taken more often there.
 const CHANGED: [u8; 4] = [ebpf::MOD32_REG, ebpf::MOD32_IMM, ebpf::MOV32_REG, ebpf::LE];
 
+/// Those that load a constant, and MOV32_IMM, which does it in a form of its
+/// own; taken more often in compact mode.
+const LOADING: [u8; 16] = [
+    ebpf::LD_DW_IMM,
+    ebpf::LD_DW_IMM,
+    ebpf::MOV64_IMM,
+    ebpf::MOV64_IMM,
+    ebpf::MOV32_IMM,
+    ebpf::MUL32_IMM,
+    ebpf::MUL64_IMM,
+    ebpf::DIV32_IMM,
+    ebpf::DIV64_IMM,
+    ebpf::MOD32_IMM,
+    ebpf::MOD64_IMM,
+    ebpf::DIV64_REG,
+    ebpf::MOD32_REG,
+    ebpf::CALL,
+    ebpf::CALL,
+    ebpf::CALL,
+];
+
 /// What good slots may refer to.
 pub struct Setting<'a> {
     pub opcodes: &'a Opcodes,
@@ -40,6 +61,7 @@ pub struct Setting<'a> {
     /// Mostly slots with long code.
     pub fat: bool,
     pub standard: bool,
+    pub compact: bool,
 }
 
 /// A program of n slots without a fault.
@@ -51,8 +73,7 @@ pub fn good(random: &mut Random, setting: &Setting, n: usize) -> Vec<u8> {
         if opc != ebpf::LD_DW_IMM {
             program.extend(good_slot(random, setting, at, opc));
         } else if at + 1 < n {
-            program.extend(good_slot(random, setting, at, opc));
-            program.extend(second_half(random));
+            program.extend(wide_load(random, setting, at).concat());
         }
     }
     program
@@ -61,6 +82,8 @@ pub fn good(random: &mut Random, setting: &Setting, n: usize) -> Vec<u8> {
 fn good_opcode(random: &mut Random, setting: &Setting) -> u8 {
     if setting.standard && random.one_in(3) {
         random.pick(&CHANGED)
+    } else if setting.compact && random.one_in(3) {
+        random.pick(&LOADING)
     } else if random.one_in(if setting.fat { 2 } else { 4 }) {
         random.pick(&FAVOURED)
     } else if setting.fat {
@@ -90,6 +113,20 @@ fn good_slot(random: &mut Random, setting: &Setting, at: usize, opc: u8) -> [u8;
         ebpf::CALL => slot(opc, dst, 1, offset(random), target),
         _ => slot(opc, dst, src, offset(random), immediate(random)),
     }
+}
+
+/// Its halves are drawn apart; in compact mode, every other time, as the halves
+/// of a constant at which something changes.
+fn wide_load(random: &mut Random, setting: &Setting, at: usize) -> [[u8; 8]; 2] {
+    let mut first = good_slot(random, setting, at, ebpf::LD_DW_IMM);
+    let mut second = second_half(random);
+    if setting.compact && random.one_in(2) {
+        let halves = slots::wide(0, random.pick(&slots::CONSTANTS));
+        for (slot, half) in [&mut first, &mut second].into_iter().zip(halves) {
+            slot[4..].copy_from_slice(&half[4..]);
+        }
+    }
+    [first, second]
 }
 
 /// The second half of a wide load. Only its immediate counts; the other fields

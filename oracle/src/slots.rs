@@ -85,6 +85,7 @@ pub fn plain_case(program: &[u8]) -> Case {
         use_mbuff: false,
         update_data_ptr: false,
         standard: false,
+        compact: false,
         code_len: CODE_MIN,
         table_lens: [entries; 3],
         further_lens: None,
@@ -96,6 +97,10 @@ pub fn plain_case(program: &[u8]) -> Case {
 
 pub fn in_standard_mode(case: Case) -> Case {
     Case { standard: true, ..case }
+}
+
+pub fn in_compact_mode(case: Case) -> Case {
+    Case { compact: true, ..case }
 }
 
 /// The same case with five tables, the two further ones of n+1 entries.
@@ -111,6 +116,17 @@ pub fn with_tables(case: &Case, [locations, fields, targets, kinds, makers]: [u3
         further_lens: Some([kinds, makers]),
         ..case.clone()
     }
+}
+
+/// The numbers of a program's slots, without the second halves of wide loads
+/// and without one that is cut short.
+pub fn first_slots(program: &[u8]) -> impl Iterator<Item = usize> + '_ {
+    let n = program.len() / ebpf::INSN_SIZE;
+    let next = |slot: &usize| match program.get(slot * ebpf::INSN_SIZE) {
+        Some(&ebpf::LD_DW_IMM) => Some(slot + 2),
+        _ => Some(slot + 1),
+    };
+    std::iter::successors(Some(0), next).take_while(move |slot| *slot < n)
 }
 
 /// A jump with a target in `off`.

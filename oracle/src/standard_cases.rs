@@ -1,5 +1,7 @@
-//! The last part of the fixed list: cases in standard mode. It stands behind
-//! all others, so that the cases ahead of it keep their numbers.
+//! A part of the fixed list: cases in standard mode. It stands behind the cases
+//! with five tables, so that the cases ahead of it keep their numbers.
+
+use std::convert::identity;
 
 use crate::corpus::{
     bad_slots, case_of, code_len_alone, page_end, with_helper, worked, EXIT, FLAG_PAIRS,
@@ -7,7 +9,7 @@ use crate::corpus::{
 use crate::ebpf;
 use crate::generate::{Form, Generator};
 use crate::judge::Judge;
-use crate::limits::{codeless, local_call, roomy};
+use crate::limits::{codeless, local_call, longest_program, roomy};
 use crate::sizes::{
     ANCHOR, CODE_LONGEST, CODE_MAX, CODE_MIN, EPILOGUE, PROGRAM_MAX, PROLOGUE_LONGEST, SLOTS_MAX,
 };
@@ -21,12 +23,12 @@ const RANDOM_SEED: u64 = 3;
 const RANDOM_COUNT: u64 = 200;
 
 /// Pairs of dst and src, the second of registers that have a REX prefix.
-const LOW_AND_HIGH: [(u8, u8); 2] = [(1, 2), (4, 8)];
+pub const LOW_AND_HIGH: [(u8, u8); 2] = [(1, 2), (4, 8)];
 /// LE of a width that it has not.
 const BAD_LE: [u8; 8] = [ebpf::LE, 1, 0, 0, 8, 0, 0, 0];
 /// JA to a slot that is not there, and the length of its code.
-const BAD_JUMP: [u8; 8] = [ebpf::JA, 0, 9, 0, 0, 0, 0, 0];
-const BAD_JUMP_LEN: usize = 5;
+pub const BAD_JUMP: [u8; 8] = [ebpf::JA, 0, 9, 0, 0, 0, 0, 0];
+pub const BAD_JUMP_LEN: usize = 5;
 
 pub fn cases(
     judge: &mut Judge,
@@ -38,8 +40,8 @@ pub fn cases(
     list.extend(registers());
     list.extend(unused_fields());
     list.extend(widths());
-    list.extend(flags());
-    list.extend(frames());
+    list.extend(flags(&changed(4, 8)));
+    list.extend(frames(&changed(1, 2), BAD_LE));
     list.extend(bad_slots_beside_le());
     list.extend(jumps());
     list.extend(page_ends(judge)?);
@@ -47,7 +49,7 @@ pub fn cases(
     list.extend(longest_programs(judge)?);
     let mut list: Vec<Case> = list.into_iter().map(in_standard_mode).collect();
     for at in 0..RANDOM_COUNT {
-        let form = Form { standard: true, ..Form::of(at) };
+        let form = Form { standard: true, compact: false, ..Form::of(at) };
         list.push(generator.formed(form, RANDOM_SEED, at)?);
     }
     Ok(list)
@@ -55,7 +57,7 @@ pub fn cases(
 
 /// The slots that standard mode changes, with MOD32_IMM by 0 and LE by width;
 /// LE 64 has no code in either mode.
-fn changed(dst: u8, src: u8) -> [[u8; 8]; 6] {
+pub fn changed(dst: u8, src: u8) -> [[u8; 8]; 6] {
     [
         slot(ebpf::MOD32_REG, dst, src, 0, 0),
         slot(ebpf::MOD32_IMM, dst, src, 0, 0),
@@ -124,10 +126,10 @@ fn widths() -> Vec<Case> {
 
 // ---- the frame ---------------------------------------------------------------
 
-/// The four pairs of flags.
-fn flags() -> Vec<Case> {
+/// The four pairs of flags, with no slot, with EXIT and with these slots.
+pub fn flags(slots: &[[u8; 8]]) -> Vec<Case> {
     let others = [slot(ebpf::CALL, 0, 0, 0, 0), slot(ebpf::JA, 0, 0, -3, 0)];
-    let programs = [vec![], vec![EXIT], [&changed(4, 8)[..], &others].concat()];
+    let programs = [vec![], vec![EXIT], [slots, &others].concat()];
     let mut list = Vec::new();
     for program in programs {
         for (use_mbuff, update_data_ptr) in FLAG_PAIRS {
@@ -138,17 +140,17 @@ fn flags() -> Vec<Case> {
     list
 }
 
-/// Refusals 1 to 5 ahead of 10, and both sides of their limits.
-fn frames() -> Vec<Case> {
+/// Refusals 1 to 5 ahead of that of a bad slot, and both sides of their limits.
+pub fn frames(good: &[[u8; 8]], bad: [u8; 8]) -> Vec<Case> {
     let mut list = Vec::new();
     for code_len in [0, CODE_MIN - 1, CODE_MIN, CODE_MAX, CODE_MAX + 1, u32::MAX] {
         list.push(Case { code_len, ..case_of(&[EXIT]) });
-        list.push(Case { code_len, ..case_of(&[BAD_LE]) });
+        list.push(Case { code_len, ..case_of(&[bad]) });
     }
     for len in [PROGRAM_MAX - 1, PROGRAM_MAX, PROGRAM_MAX + 1] {
         list.push(roomy(&codeless(len)));
     }
-    for program in [&changed(1, 2)[..], &[BAD_LE]] {
+    for program in [good, &[bad]] {
         let case = case_of(program);
         let n = case.slots() as u32;
         for table in 0..5 {
@@ -184,27 +186,28 @@ fn bad_slots_beside_le() -> Vec<Case> {
 
 // ---- jumps -------------------------------------------------------------------
 
-/// Jumps of every kind over a changed slot, forward and back, to it, to what is
-/// behind it, and from it.
 fn jumps() -> Vec<Case> {
+    let over = LOW_AND_HIGH.into_iter().flat_map(|(dst, src)| changed(dst, src));
+    over.flat_map(jumps_over).collect()
+}
+
+/// Jumps of every kind over a slot, forward and back, to it, to what is behind
+/// it, and from it.
+pub fn jumps_over(over: [u8; 8]) -> [Case; 8] {
     let [first, second] = wide(2, 5);
     let divides = slot(ebpf::DIV64_REG, 1, 2, 0, 0);
     let modulo = slot(ebpf::MOD64_REG, 4, 8, 0, 0);
-    let mut list = Vec::new();
-    for over in LOW_AND_HIGH.into_iter().flat_map(|(dst, src)| changed(dst, src)) {
-        let programs: [&[[u8; 8]]; 8] = [
-            &[slot(ebpf::JA, 0, 0, 1, 0), over, EXIT],
-            &[EXIT, over, slot(ebpf::JEQ_IMM, 1, 0, -3, 3)],
-            &[slot(ebpf::JNE_REG32, 4, 8, 0, 0), over, slot(ebpf::JA, 0, 0, -2, 0)],
-            &[local_call(1), over, EXIT],
-            &[over, local_call(ANCHOR - 2), over],
-            &[slot(ebpf::JA, 0, 0, 1, 0), over],
-            &[first, second, over, slot(ebpf::JSET_REG, 4, 8, -3, 0)],
-            &[divides, over, modulo, over, divides],
-        ];
-        list.extend(programs.map(|program| five_tables(case_of(program))));
-    }
-    list
+    let programs: [&[[u8; 8]]; 8] = [
+        &[slot(ebpf::JA, 0, 0, 1, 0), over, EXIT],
+        &[EXIT, over, slot(ebpf::JEQ_IMM, 1, 0, -3, 3)],
+        &[slot(ebpf::JNE_REG32, 4, 8, 0, 0), over, slot(ebpf::JA, 0, 0, -2, 0)],
+        &[local_call(1), over, EXIT],
+        &[over, local_call(ANCHOR - 2), over],
+        &[slot(ebpf::JA, 0, 0, 1, 0), over],
+        &[first, second, over, slot(ebpf::JSET_REG, 4, 8, -3, 0)],
+        &[divides, over, modulo, over, divides],
+    ];
+    programs.map(|program| five_tables(case_of(program)))
 }
 
 // ---- the page's end ----------------------------------------------------------
@@ -216,14 +219,14 @@ fn page_ends(judge: &mut Judge) -> Result<Vec<Case>, String> {
     let [at_every_byte, ..] = changed(4, 8);
     let mut list = Vec::new();
     for last in LOW_AND_HIGH.into_iter().flat_map(|(dst, src)| changed(dst, src)) {
-        let len = code_len_alone(judge, &[last], true)?;
+        let len = code_len_alone(judge, &[last], in_standard_mode)?;
         let excesses = if last == at_every_byte {
             (0..=EPILOGUE + len).collect()
         } else {
             vec![0, 1, EPILOGUE, EPILOGUE + 1, EPILOGUE + len]
         };
         list.extend(excesses.into_iter().map(|excess| page_end(&[last], len, excess)));
-        let without = code_len_alone(judge, &[last], false)?;
+        let without = code_len_alone(judge, &[last], identity)?;
         list.extend([0, 1, 2].map(|excess| page_end(&[last], without, excess)));
     }
     list.extend(pages_of_changed_slots(judge)?);
@@ -234,7 +237,7 @@ fn page_ends(judge: &mut Judge) -> Result<Vec<Case>, String> {
 /// the epilogue, and ahead of it.
 fn pages_of_changed_slots(judge: &mut Judge) -> Result<Vec<Case>, String> {
     let row = changed(4, 8);
-    let times = CODE_MIN as usize / code_len_alone(judge, &row, true)?;
+    let times = CODE_MIN as usize / code_len_alone(judge, &row, in_standard_mode)?;
     let case = five_tables(case_of(&row.repeat(times + 1)));
     let Answer::Accepted(page) = judge.answer(&in_standard_mode(roomy(&case.program)))? else {
         return Err("a page of changed slots is not accepted".to_string());
@@ -247,7 +250,7 @@ fn pages_of_changed_slots(judge: &mut Judge) -> Result<Vec<Case>, String> {
 /// and 14 behind both.
 fn other_refusals_at_the_end(judge: &mut Judge) -> Result<Vec<Case>, String> {
     let [modulo, ..] = changed(1, 2);
-    let len = code_len_alone(judge, &[modulo], true)?;
+    let len = code_len_alone(judge, &[modulo], in_standard_mode)?;
     let mut list = Vec::new();
     for excess in [0, 1, EPILOGUE, EPILOGUE + 1] {
         list.push(page_end(&[modulo, BAD_LE], len, excess));
@@ -260,16 +263,9 @@ fn other_refusals_at_the_end(judge: &mut Judge) -> Result<Vec<Case>, String> {
 /// The longest programs, of slots that are changed and of the slot with the
 /// longest code, in pages that they fill, and in one that is a byte too short.
 fn longest_programs(judge: &mut Judge) -> Result<Vec<Case>, String> {
-    let full = |slot: [u8; 8], code_len: usize| {
-        five_tables(Case {
-            code_len: code_len as u32,
-            use_mbuff: true,
-            update_data_ptr: true,
-            ..plain_case(&slot.repeat(SLOTS_MAX))
-        })
-    };
+    let full = |slot: [u8; 8], code_len| five_tables(longest_program(slot, code_len));
     let [modulo, ..] = changed(4, 5);
-    let len = code_len_alone(judge, &[modulo], true)?;
+    let len = code_len_alone(judge, &[modulo], in_standard_mode)?;
     let of_modulo = len * SLOTS_MAX + PROLOGUE_LONGEST + EPILOGUE;
     Ok(vec![
         full(modulo, of_modulo),

@@ -21,6 +21,7 @@ const ANSWER_LIMIT: usize = 1 << 20;
 const USE_MBUFF: u8 = 1 << 0;
 const UPDATE_DATA_PTR: u8 = 1 << 1;
 const STANDARD: u8 = 1 << 2;
+const COMPACT: u8 = 1 << 3;
 /// The lengths of the tables of kinds and makers are given, and the answer is
 /// to show what these hold.
 const FIVE_TABLES: u8 = 1 << 7;
@@ -32,6 +33,8 @@ pub struct Case {
     pub update_data_ptr: bool,
     /// Standard mode: the code follows RFC 9669 where rbpf's does not.
     pub standard: bool,
+    /// Compact mode: constants below 2^32 are loaded with fewer bytes.
+    pub compact: bool,
     pub code_len: u32,
     /// Entries of the locations, jump field and jump target tables.
     pub table_lens: [u32; 3],
@@ -109,6 +112,7 @@ fn flags_of(case: &Case) -> u8 {
     flag(USE_MBUFF, case.use_mbuff)
         | flag(UPDATE_DATA_PTR, case.update_data_ptr)
         | flag(STANDARD, case.standard)
+        | flag(COMPACT, case.compact)
         | flag(FIVE_TABLES, case.further_lens.is_some())
 }
 
@@ -280,8 +284,8 @@ impl<'a> Parts<'a> {
 fn parse_case(rest: &[u8]) -> Result<Case, &'static str> {
     let mut parts = Parts(rest);
     let flags = parts.bytes(1)?[0];
-    if flags & !(USE_MBUFF | UPDATE_DATA_PTR | STANDARD | FIVE_TABLES) != 0 {
-        return Err("it has a flag other than bits 0, 1, 2 and 7");
+    if flags & !(USE_MBUFF | UPDATE_DATA_PTR | STANDARD | COMPACT | FIVE_TABLES) != 0 {
+        return Err("it has a flag other than bits 0, 1, 2, 3 and 7");
     }
     let code_len = parts.u32()?;
     let table_lens = [parts.u32()?, parts.u32()?, parts.u32()?];
@@ -299,6 +303,7 @@ fn parse_case(rest: &[u8]) -> Result<Case, &'static str> {
         use_mbuff: flags & USE_MBUFF != 0,
         update_data_ptr: flags & UPDATE_DATA_PTR != 0,
         standard: flags & STANDARD != 0,
+        compact: flags & COMPACT != 0,
         code_len,
         table_lens,
         further_lens,

@@ -62,9 +62,10 @@ pub const HELPERS_MAX: usize = 256;
 /// In the table of targets: a jump to the exit.
 pub const EXIT_TARGET: u32 = 1_000_001;
 
-/// What the filter finds in its registers, and whose rules its code follows.
-/// Callers name the flags that they set, as in `Flags { use_mbuff: true,
-/// ..Flags::default() }`: one that is added later is then off.
+/// What the filter finds in its registers, whose rules its code follows, and
+/// how its constants are loaded. Callers name the flags that they set, as in
+/// `Flags { use_mbuff: true, ..Flags::default() }`: one that is added later is
+/// then off.
 #[derive(Clone, Copy, Debug, Default, PartialEq, Eq)]
 pub struct Flags {
     /// r1 is a metadata buffer (mbuff), and not the packet.
@@ -77,6 +78,10 @@ pub struct Flags {
     /// alone, as RFC 9669 has it. Off, as in rbpf, this MOV copies 64 bits,
     /// this MOD and LE do nothing.
     pub standard: bool,
+    /// Compact constants: one of 0 to 4,294,967,295 takes 5 or 6 bytes to load,
+    /// and not 7 or 10, so that a longer program finds room in a page. The code
+    /// does the same. Off, constants are loaded as in rbpf.
+    pub compact: bool,
 }
 
 /// The helpers that the filter may call: a number and an address for each,
@@ -154,12 +159,13 @@ pub fn translate(
     // Each pointer is a slice's, good for its length; what is written is lent
     // by `&mut`, so nothing overlaps it.
     let answer = unsafe {
-        raw::ndakoleem_translate_3(
+        raw::ndakoleem_translate_4(
             program.as_ptr(),
             program.len(),
             flags.use_mbuff,
             flags.update_data_ptr,
             flags.standard,
+            flags.compact,
             helpers.ids.as_ptr(),
             helpers.ids.len(),
             helpers.addresses.as_ptr(),

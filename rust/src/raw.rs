@@ -18,12 +18,13 @@ pub const SENTENCE_ENOUGH: usize = 200;
 extern "C" {
     /// Every slice is a pointer and its length in elements; none of the memory
     /// may overlap what is lent to be changed.
-    pub fn ndakoleem_translate_3(
+    pub fn ndakoleem_translate_4(
         program: *const u8,
         program_length: usize,
         use_mbuff: bool,
         update_data_ptr: bool,
         standard: bool,
+        compact: bool,
         ids: *const u32,
         ids_length: usize,
         addresses: *const u64,

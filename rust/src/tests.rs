@@ -144,12 +144,15 @@ fn each_flag_of_the_prologue_reaches_the_library() {
     assert_eq!(lengths, [51, 51, 48, 66]);
 }
 
-/// The code of a slot that stands between two others, without standard mode and
-/// in it.
-fn in_both_modes(slot: [u8; 8]) -> [Result<Vec<u8>, Refusal>; 2] {
-    [false, true].map(|standard| {
+/// Without standard mode and in it, each with rbpf's constants and with compact
+/// ones.
+const MODES: [(bool, bool); 4] = [(false, false), (false, true), (true, false), (true, true)];
+
+/// In each mode the code of a slot that stands between two others.
+fn in_every_mode(slot: [u8; 8]) -> [Result<Vec<u8>, Refusal>; 4] {
+    MODES.map(|(standard, compact)| {
         let mut page = Page::new();
-        let flags = Flags { standard, ..Flags::default() };
+        let flags = Flags { standard, compact, ..Flags::default() };
         page.translate(&[EXIT, slot, EXIT].concat(), flags, Helpers::default())?;
         let [begin, end] = [1, 2].map(|slot| page.locations()[slot] as usize);
         Ok(page.code()[begin..end].to_vec())
@@ -158,14 +161,49 @@ fn in_both_modes(slot: [u8; 8]) -> [Result<Vec<u8>, Refusal>; 2] {
 
 #[test]
 fn standard_mode_reaches_the_library() {
-    let mov32_reg = in_both_modes([0xbc, 0, 0, 0, 0, 0, 0, 0]);
-    assert_eq!(mov32_reg, [Ok(vec![0x48, 0x89, 0xc0]), Ok(vec![0x89, 0xc0])]);
-    let mod32_by_0 = in_both_modes([0x94, 0, 0, 0, 0, 0, 0, 0]);
-    assert_eq!(mod32_by_0, [Ok(vec![]), Ok(vec![0x89, 0xc0])]);
-    let [off, on] = in_both_modes([0xd4, 0, 0, 0, 8, 0, 0, 0]);
-    assert_eq!(off, Ok(vec![]));
-    let refusal = on.expect_err("LE 8");
-    assert_eq!((refusal.reason, refusal.slot), (Reason::BadSwap, 1));
+    let is = |slot, off: &[u8], on: &[u8]| {
+        assert_eq!(in_every_mode(slot), [off, off, on, on].map(|code| Ok(code.to_vec())));
+    };
+    // MOV32 by register, MOD32 by the immediate 0.
+    is([0xbc, 0, 0, 0, 0, 0, 0, 0], &[0x48, 0x89, 0xc0], &[0x89, 0xc0]);
+    is([0x94, 0, 0, 0, 0, 0, 0, 0], &[], &[0x89, 0xc0]);
+    // LE 8.
+    let [off, off_compact, on, on_compact] = in_every_mode([0xd4, 0, 0, 0, 8, 0, 0, 0]);
+    assert_eq!((off, off_compact), (Ok(vec![]), Ok(vec![])));
+    for answer in [on, on_compact] {
+        let refusal = answer.expect_err("LE 8");
+        assert_eq!((refusal.reason, refusal.slot), (Reason::BadSwap, 1));
+    }
+}
+
+#[test]
+fn compact_constants_reach_the_library() {
+    let is = |slot, off: &[u8], on: &[u8]| {
+        assert_eq!(in_every_mode(slot), [off, on, off, on].map(|code| Ok(code.to_vec())));
+    };
+    // MOV64 by immediate: 1 to r0 (RAX) and to r7 (R13).
+    is([0xb7, 0, 0, 0, 1, 0, 0, 0], &[0x48, 0xc7, 0xc0, 1, 0, 0, 0], &[0xb8, 1, 0, 0, 0]);
+    is([0xb7, 7, 0, 0, 1, 0, 0, 0], &[0x49, 0xc7, 0xc5, 1, 0, 0, 0], &[0x41, 0xbd, 1, 0, 0, 0]);
+    // -1, and a 32-bit move, keep their forms.
+    let minus_1 = [0x48, 0xc7, 0xc0, 0xff, 0xff, 0xff, 0xff];
+    is([0xb7, 0, 0, 0, 0xff, 0xff, 0xff, 0xff], &minus_1, &minus_1);
+    let at_32_bits = [0xc7, 0xc0, 1, 0, 0, 0];
+    is([0xb4, 0, 0, 0, 1, 0, 0, 0], &at_32_bits, &at_32_bits);
+}
+
+#[test]
+fn with_compact_constants_more_finds_room() -> Result<(), Refusal> {
+    // 7 bytes of code each, or 5.
+    let program = [0xb7, 0, 0, 0, 1, 0, 0, 0].repeat(600);
+    let translated = |compact| {
+        let flags = Flags { compact, ..Flags::default() };
+        Lent::new(CODE_MIN, 601).translate(&program, flags, Helpers::default())
+    };
+    let refusal = translated(false).expect_err("4,250 bytes");
+    assert_eq!((refusal.reason, refusal.slot), (Reason::NoRoom, 580));
+    // The prologue is 34 bytes, the epilogue 16.
+    assert_eq!(translated(true)?.length, 34 + 5 * 600 + 16);
+    Ok(())
 }
 
 #[test]

@@ -1,6 +1,6 @@
 //! The stored corpus, put to the library over its C boundary: every answer is
-//! rbpf's, in standard mode what the oracle makes of rbpf's, and nothing else
-//! that was lent has changed.
+//! rbpf's, in standard mode and with compact constants what the oracle makes of
+//! rbpf's, and nothing else that was lent has changed.
 //!
 //! The library's code is proved, but nothing proves that the declaration in
 //! `raw.rs` is the one of the Rattle source: an argument in the wrong place
@@ -54,8 +54,8 @@ fn answer(case: &Case) -> Answer {
     let mut lent = marked(case);
     let [locations, fields, targets, kinds, makers] = &mut lent;
     let tables = Tables { locations, fields, targets, kinds, makers };
-    let Case { use_mbuff, update_data_ptr, standard, .. } = *case;
-    let flags = Flags { use_mbuff, update_data_ptr, standard };
+    let Case { use_mbuff, update_data_ptr, standard, compact, .. } = *case;
+    let flags = Flags { use_mbuff, update_data_ptr, standard, compact };
     let helpers = Helpers { ids: &case.helper_ids, addresses: &case.helper_addresses };
     match translate(&case.program, flags, helpers, &mut code, tables) {
         Err(refusal) => {

@@ -1,5 +1,6 @@
 //! How a page enters its helpers, and that `helper_entry!` makes it right:
-//! filters that call a helper outside local calls, inside one, and inside two.
+//! filters that call a helper outside local calls, inside one, and inside two,
+//! by an address that is loaded as in rbpf, and by a compact constant.
 
 use std::arch::{asm, global_asm};
 use std::hint::black_box;
@@ -68,13 +69,20 @@ fn filter(local_calls: usize) -> Vec<u8> {
     program
 }
 
-/// What the helper gives, modulo 16, inside no local call, one and two.
+/// What the helper gives, modulo 16, inside no local call, one and two; the same
+/// with compact constants.
 fn called(helper: *const ()) -> [u64; 3] {
+    let [rbpfs, compact] = [false, true].map(|compact| called_from(compact, helper));
+    assert_eq!(rbpfs, compact);
+    rbpfs
+}
+
+fn called_from(compact: bool, helper: *const ()) -> [u64; 3] {
     [0, 1, 2].map(|local_calls| {
         let helpers = Helpers { ids: &[7], addresses: &[helper as u64] };
+        let flags = Flags { compact, ..Flags::default() };
         let mut page = Page::new();
-        let code =
-            page.translate(&filter(local_calls), Flags::default(), helpers).expect("accepted");
+        let code = page.translate(&filter(local_calls), flags, helpers).expect("accepted");
         unsafe {
             let none = std::ptr::null_mut();
             let at = mmap(none, CODE_MIN, PROT_READ_WRITE, MAP_PRIVATE_ANONYMOUS, -1, 0);

@@ -151,10 +151,22 @@ pub bit-2-unseen : caseOf standard 512 512 .standard ≡ false → ⊥
 unfolding caseOf partsOf noCase wrongWith lengthsEnd idsIn addressesAt addressesIn programAt programIn
 bit-2-unseen e = let z : _≡_ {A = ℕ} 0 1 = cc in omega arith
 
--- .. and of one that has bit 3, which no case has: taken for a case
-pub bit-3-let-pass : problemNumber (caseOf (8 ∷ drop 1 small) 512 512 .problem) ≡ 0 → ⊥
+-- .. of one that has bit 3 alone: it is taken for bit 2; it is not seen
+abbrev pub compact : List ℕ
+compact = 8 ∷ drop 1 small
+
+pub bit-3-taken-for-bit-2 : caseOf compact 512 512 .standard ≡ true → ⊥
 unfolding caseOf partsOf noCase wrongWith lengthsEnd idsIn addressesAt addressesIn programAt programIn
-bit-3-let-pass e = omega (arith, e)
+bit-3-taken-for-bit-2 e = let z : _≡_ {A = ℕ} 0 1 = cc in omega arith
+
+pub bit-3-unseen : caseOf compact 512 512 .compact ≡ false → ⊥
+unfolding caseOf partsOf noCase wrongWith lengthsEnd idsIn addressesAt addressesIn programAt programIn
+bit-3-unseen e = let z : _≡_ {A = ℕ} 0 1 = cc in omega arith
+
+-- .. and of one that has bit 4, which no case has: taken for a case
+pub bit-4-let-pass : problemNumber (caseOf (16 ∷ drop 1 small) 512 512 .problem) ≡ 0 → ⊥
+unfolding caseOf partsOf noCase wrongWith lengthsEnd idsIn addressesAt addressesIn programAt programIn
+bit-4-let-pass e = omega (arith, e)
 
 -- number_at and count_at: the highest byte first; one byte alone. address_at: its halves exchanged; the low half alone
 pub number-backwards : le4 (1 ∷ 2 ∷ 3 ∷ 4 ∷ []) 0 ≡ 16909060 → ⊥

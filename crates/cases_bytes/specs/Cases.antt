@@ -48,7 +48,7 @@ firstOf (t ⊘ p ∷ r) = pick t p (firstOf r)
 abbrev pub checks : List ℕ → ℕ → ℕ → List Check
 checks b mostIds mostAddresses =
     eqb (length b) 0 ⊘ Unfilled
-    ∷ ltb 7 (getD b 0 0 % 128) ⊘ OtherFlags
+    ∷ ltb 15 (getD b 0 0 % 128) ⊘ OtherFlags
     ∷ ltb (length b) (lengthsEnd b + 4) ⊘ Unfilled
     ∷ ltb mostIds (idsIn b) ⊘ ManyIds
     ∷ ltb (length b) (addressesAt b) ⊘ Unfilled
@@ -74,6 +74,7 @@ partsOf b = record {
   «use_mbuff» = eqb (getD b 0 0 % 2) 1;
   «update_data_ptr» = eqb (getD b 0 0 / 2 % 2) 1;
   standard = eqb (getD b 0 0 / 4 % 2) 1;
+  compact = eqb (getD b 0 0 / 8 % 2) 1;
   named = eqb (getD b 0 0 / 128) 1;
   code = le4 b 1;
   locations = le4 b 5;
@@ -92,6 +93,7 @@ noCase p = record {
   «use_mbuff» = false;
   «update_data_ptr» = false;
   standard = false;
+  compact = false;
   named = false;
   code = 0;
   locations = 0;

@@ -8,6 +8,8 @@ ghost use Rattle.cases_bytes.specs.Lent.{lengthOf, lengthsEnd, caseOf, w
 use crate::limits;
 use crate::numbers;
 use cases_problems::Problem;
+use jit::Flags;
+use jit::Mode;
 
 // What a case asks for, all lengths as it has them. The program is the rest of the body, from `program` on. Where there is a problem,
 // all are 0.
@@ -16,6 +18,7 @@ pub struct Case {
     pub use_mbuff: bool,
     pub update_data_ptr: bool,
     pub standard: bool,
+    pub compact: bool,
     // The answer has the kinds and makers of the jumps too.
     pub named: bool,
     pub code: usize,
@@ -29,6 +32,25 @@ pub struct Case {
     pub program: usize,
 }
 
+// What the translator is asked with, by the flags of a case.
+pub fn flags_of(case: Case) -> Flags
+    ensures { λ r. ⌜ (r .«use_mbuff» ≡ case .«use_mbuff») × (r .«update_data_ptr» ≡ case .«update_data_ptr») ⌝ }
+{
+    Flags {
+        use_mbuff: case.use_mbuff,
+        update_data_ptr: case.update_data_ptr,
+    }
+}
+
+pub fn mode_of(case: Case) -> Mode
+    ensures { λ r. ⌜ (r .standard ≡ case .standard) × (r .compact ≡ case .compact) ⌝ }
+{
+    Mode {
+        standard: case.standard,
+        compact: case.compact,
+    }
+}
+
 fn no_case(problem: Problem) -> Case
     ensures { λ r. ⌜ r ≡ noCase problem ⌝ }
 {
@@ -37,6 +59,7 @@ fn no_case(problem: Problem) -> Case
         use_mbuff: false,
         update_data_ptr: false,
         standard: false,
+        compact: false,
         named: false,
         code: 0,
         locations: 0,
@@ -65,7 +88,7 @@ fn wrong_with(body: &[u8], most_ids: usize, most_addresses: usize) -> Problem
     if body.len() == 0 {
         return Problem::Unfilled;
     }
-    if 7 < body[0] % 128 {
+    if 15 < body[0] % 128 {
         return Problem::OtherFlags;
     }
     let end = lengths_end(body);
@@ -144,6 +167,7 @@ fn parts_of(body: &[u8]) -> Case
         use_mbuff: body[0] % 2 == 1,
         update_data_ptr: body[0] / 2 % 2 == 1,
         standard: body[0] / 4 % 2 == 1,
+        compact: body[0] / 8 % 2 == 1,
         named: body[0] / 128 == 1,
         code: numbers::count_at(body, 1),
         locations: numbers::count_at(body, 5),

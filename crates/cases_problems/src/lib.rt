@@ -98,7 +98,7 @@ fn put_why(out: &mut [u8], at: usize, problem: Problem) -> usize
         Problem::OtherFlags => put_text(
             out,
             at,
-            b" is malformed: it has a flag other than bits 0, 1, 2 and 7",
+            b" is malformed: it has a flag other than bits 0, 1, 2, 3 and 7",
         ),
         Problem::ManyIds => put_text(out, at, b" is malformed: it has more than 512 helper ids"),
         Problem::ManyAddresses => put_text(

@@ -283,13 +283,8 @@ fn run_case(
     requires { ⌜ Inside body ids addresses case ⌝ }
     ensures { λ r. ⌜ r .size ≤ length (now (out .exit)) ⌝ }
 {
-    let flags = Flags {
-        use_mbuff: case.use_mbuff,
-        update_data_ptr: case.update_data_ptr,
-    };
-    let mode = Mode {
-        standard: case.standard,
-    };
+    let flags = parts::flags_of(case);
+    let mode = parts::mode_of(case);
     let program = case.program;
     let i = case.ids;
     let a = case.addresses;

@@ -7,4 +7,7 @@ pub mod JumpTablesLaws
 pub mod FrameLaws
 pub mod NoTargets
 pub mod ModesLaws
+pub mod CompactSlots
+pub mod RefusedSlots
+pub mod CompactLaws
 pub mod Useless

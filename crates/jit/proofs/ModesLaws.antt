@@ -16,6 +16,7 @@ use Rattle.ebpf.specs.declared.insn.Insn.{Insn}
 use Rattle.ebpf.specs.declared.insn.Read.{Read}
 use Rattle.ebpf.specs.declared.insn.Read.the-variants.{Whole, Torn}
 use Rattle.ebpf.specs.declared.kind.MulOp.{MulOp}
+use Rattle.ebpf.specs.declared.kind.MulOp.the-variants.{Mul, Div, Mod}
 use Rattle.ebpf.specs.declared.kind.Source.{Source}
 use Rattle.ebpf.specs.declared.kind.Source.the-variants.{Imm, Reg}
 use Rattle.ebpf.specs.declared.kind.Kind.{Kind}
@@ -31,11 +32,11 @@ use Rattle.jit.specs.MulDivMod.{Code, when}
 use Rattle.jit.specs.Slots.{regOf, mulDivModCode, lowerHalf, leavesDst, slotCode}
 use Rattle.jit.specs.Translation.{Filter, Inputs, slotsOf, at, wideKind, Operand, lacks, has, operandOf, Step, stop, go, taken, known, goodRegisters}
 use Rattle.jit.specs.Translation.{stepRead, stepAt, Walk, done, slotsWide, within, after, rest, sizesOf, translationOf}
-use Rattle.jit.specs.Modes.{rust, named, namedAs, namedAt, inRust, askedInRust, Modes}
+use Rattle.jit.specs.Modes.{rust, standardOff, named, namedAs, namedAt, inMode, askedIn, Modes}
 
 -- With the mode off.
 pub rust-divides : (o : MulOp) (w : Width) (s : Source) (slot : ℕ) (i : Insn) (value : ℕ)
-    → slotCode rust (MulDivMod o w s) slot i value ≡ mulDivModCode o w s slot i
+    → slotCode rust (MulDivMod o w s) slot i value ≡ mulDivModCode rust o w s slot i
 rust-divides o w s slot i value = refl
 
 pub rust-copies : (w : Width) (slot : ℕ) (i : Insn) (value : ℕ)
@@ -43,7 +44,7 @@ pub rust-copies : (w : Width) (slot : ℕ) (i : Insn) (value : ℕ)
 rust-copies w slot i value = refl
 
 pub rust-le : (filter : Filter) (slot : ℕ) (i : Insn) (value : ℕ) (next : Read)
-    → (slotCode rust Le slot i value ≡ []) × (operandOf (inRust filter) Le slot i next ≡ has 0)
+    → (slotCode rust Le slot i value ≡ []) × (operandOf (inMode (λ m. rust) filter) Le slot i next ≡ has 0)
 rust-le filter slot i value next = (refl, refl)
 
 -- One slot.
@@ -55,11 +56,20 @@ nothing-ahead : (t b : Bool) (a c : Code) → b ≡ false → when (t && b) a ++
 nothing-ahead true b a c e = rw e refl
 nothing-ahead false b a c e = refl
 
+-- the operation itself knows of no standard mode
+operation-same : (m : Mode) (o : MulOp) (w : Width) (s : Source) (slot : ℕ) (i : Insn)
+    → mulDivModCode m o w s slot i ≡ mulDivModCode (standardOff m) o w s slot i
+operation-same m o w Imm slot i = refl
+operation-same m Mul w Reg slot i = refl
+operation-same m Div w Reg slot i = refl
+operation-same m Mod w Reg slot i = refl
+
 copies-all : (t : Bool) → pick t W64 W64 ≡ W64
 copies-all true = refl
 copies-all false = refl
 
-slots-same : (m : Mode) (k : Kind) (i : Insn) → named k i ≡ false → (slot value : ℕ) → slotCode m k slot i value ≡ slotCode rust k slot i value
+slots-same : (m : Mode) (k : Kind) (i : Insn) → named k i ≡ false → (slot value : ℕ)
+    → slotCode m k slot i value ≡ slotCode (standardOff m) k slot i value
 slots-same m (LdAbs z) i e slot value = refl
 slots-same m (LdInd z) i e slot value = refl
 slots-same m LdDwImm i e slot value = refl
@@ -70,7 +80,8 @@ slots-same m (Alu o w s) i e slot value = refl
 slots-same m (Shift o w s) i e slot value = refl
 slots-same m (Neg w) i e slot value = refl
 slots-same m (MulDivMod o w s) i e slot value =
-    nothing-ahead (m .standard) (leavesDst o w s (i .imm)) (lowerHalf (regOf (i .dst))) (mulDivModCode o w s slot i) e
+    rw (← operation-same m o w s slot i)
+    (nothing-ahead (m .standard) (leavesDst o w s (i .imm)) (lowerHalf (regOf (i .dst))) (mulDivModCode m o w s slot i) e)
 slots-same m (Mov w Imm) i e slot value = refl
 slots-same m (Mov W64 Reg) i e slot value = ap (λ (w : Width). op (alu MOV w (regOf (i .src)) (regOf (i .dst))) ∷ []) (copies-all (m .standard))
 slots-same m (Mov W32 Reg) i e slot value = never e
@@ -82,7 +93,7 @@ slots-same m Call i e slot value = refl
 slots-same m Exit i e slot value = refl
 
 module _ (filter : Filter) (slot : ℕ) (next : Read) where
-  operand-same : (k : Kind) (i : Insn) → named k i ≡ false → operandOf filter k slot i next ≡ operandOf (inRust filter) k slot i next
+  operand-same : (k : Kind) (i : Insn) → named k i ≡ false → operandOf filter k slot i next ≡ operandOf (inMode standardOff filter) k slot i next
   operand-same (LdAbs z) i e = refl
   operand-same (LdInd z) i e = refl
   operand-same LdDwImm i e = refl
@@ -101,18 +112,18 @@ module _ (filter : Filter) (slot : ℕ) (next : Read) where
   operand-same Call i e = refl
   operand-same Exit i e = refl
 
-  taken-same : (k : Kind) (i : Insn) (o : Operand) → named k i ≡ false → taken (filter .mode) k slot i o ≡ taken rust k slot i o
+  taken-same : (k : Kind) (i : Insn) (o : Operand) → named k i ≡ false → taken (filter .mode) k slot i o ≡ taken (standardOff (filter .mode)) k slot i o
   taken-same k i (lacks r) e = refl
   taken-same k i (has v) e = ap (λ (c : Code). go (record { code = c; wide = wideKind k })) (slots-same (filter .mode) k i e slot v)
 
-  known-same : (l : Lookup) (i : Insn) → namedAs l i ≡ false → known filter l slot i next ≡ known (inRust filter) l slot i next
+  known-same : (l : Lookup) (i : Insn) → namedAs l i ≡ false → known filter l slot i next ≡ known (inMode standardOff filter) l slot i next
   known-same Unknown i e = refl
   known-same Unimplemented i e = refl
-  known-same (Known k) i e = rw (operand-same k i e) (taken-same k i (operandOf (inRust filter) k slot i next) e)
+  known-same (Known k) i e = rw (operand-same k i e) (taken-same k i (operandOf (inMode standardOff filter) k slot i next) e)
 
 -- All slots.
 module _ (filter : Filter) (none : (slot : ℕ) → 8 * slot + 8 ≤ length (filter .program) → namedAt (filter .program) slot ≡ false) where
-  step-same : (slot : ℕ) → stepAt filter slot ≡ stepAt (inRust filter) slot
+  step-same : (slot : ℕ) → stepAt filter slot ≡ stepAt (inMode standardOff filter) slot
   unfolding stepAt readAt
   step-same slot = by (ltb (length (filter .program)) (8 * slot + 8)) refl
     where
@@ -123,7 +134,7 @@ module _ (filter : Filter) (none : (slot : ℕ) → 8 * slot + 8 ≤ length (fil
       next = readAt (filter .program) (slot + 1)
 
       by : (t : Bool) → ltb (length (filter .program)) (8 * slot + 8) ≡ t
-          → stepRead filter slot (pick t Torn (Whole i)) next ≡ stepRead (inRust filter) slot (pick t Torn (Whole i)) next
+          → stepRead filter slot (pick t Torn (Whole i)) next ≡ stepRead (inMode standardOff filter) slot (pick t Torn (Whole i)) next
       by true q = refl
       by false q =
           let there = ltb-false (length (filter .program)) (8 * slot + 8) q in
@@ -135,17 +146,17 @@ module _ (filter : Filter) (none : (slot : ℕ) → 8 * slot + 8 ≤ length (fil
       let end = place + size (b .code) in
       ap (λ (w : Walk). within (leb end page) slot b w) (h (slot + slotsWide (b .wide)) end)
 
-  rest-same : (fuel page slot place : ℕ) → rest fuel filter page slot place ≡ rest fuel (inRust filter) page slot place
+  rest-same : (fuel page slot place : ℕ) → rest fuel filter page slot place ≡ rest fuel (inMode standardOff filter) page slot place
   unfolding rest
   rest-same zero page slot place = refl
   rest-same (suc fuel) page slot place =
       ap (λ (w : Walk). pick (ltb (8 * slot) (length (filter .program))) w (done []))
       (rw (step-same slot)
-      (after-same page slot place (stepAt (inRust filter) slot) (λ s p. rest fuel filter page s p) (λ s p. rest fuel (inRust filter) page s p)
+      (after-same page slot place (stepAt (inMode standardOff filter) slot) (λ s p. rest fuel filter page s p) (λ s p. rest fuel (inMode standardOff filter) page s p)
       (λ t p. rest-same fuel page t p)))
 
 programs-same : (x : Inputs) → ((slot : ℕ) → 8 * slot + 8 ≤ length (x .filter .program) → namedAt (x .filter .program) slot ≡ false)
-    → translationOf x ≡ translationOf (askedInRust x)
+    → translationOf x ≡ translationOf (askedIn standardOff x)
 unfolding translationOf sizesOf
 programs-same x none =
     let n = slotsOf (x .filter .program) in

@@ -1,4 +1,4 @@
--- No slot has more than 42 bytes, most have 14 at most, and none lists more than one jump, in either mode.
+-- No slot has more than 42 bytes, most have 14 at most, and none lists more than one jump, in every mode.
 use mathlib.Core.Path.{_≡_}
 use mathlib.Core.Bool.{Bool, true, false, not, _&&_}
 use mathlib.Core.List.{[], _∷_, _++_}
@@ -18,14 +18,16 @@ use Rattle.ebpf.specs.declared.kind.MulOp.the-variants.{Mul, Div, Mod}
 use Rattle.ebpf.specs.declared.kind.Kind.{Kind}
 use Rattle.ebpf.specs.declared.kind.Kind.the-variants.{LdAbs, LdInd, LdDwImm, LdReg, StImm, StReg, Alu, Shift, Neg, MulDivMod, Mov, Le, Be, Ja, Jump, Call, Exit}
 use Rattle.x86.specs.Registers.{RAX, RCX, RDX}
-use Rattle.x86.specs.Instr.{op, push, pop, alu, aluImm, unary, movabs, rol16, bswap, jump, callReg, ret, MOV, XOR, TEST, MUL, DIV, AND}
+use Rattle.x86.specs.Instr.{op, push, pop, alu, aluImm, unary, movImm, rol16, bswap, jump, callReg, ret, MOV, XOR, TEST, MUL, DIV, AND}
 use Rattle.x86.specs.Encode.{rex, len, jumpOpcode}
 use Rattle.x86.proofs.Lengths.{most, rex-most, plain-most}
 use Rattle.x86.specs.Code.{Dest, size, targetsOf}
 use Rattle.x86.proofs.CodeLaws.{size-append, targets-append}
 use Rattle.jit.specs.MulDivMod.{Code, when, unlessIs, byZero, guard, operate, fromRax, saved, restored, saves, restores, operated, computed, mulDivModImm, mulDivModReg}
 use Rattle.jit.specs.declared.Mode.{Mode}
-use Rattle.jit.specs.Slots.{regOf, targetOf, loadImm, swap, helperCall, localCall, lowerHalf, lowest16, clears, cleared, truncated, slotCode}
+use Rattle.jit.specs.Constants.{loadImm, loaded}
+use Rattle.jit.proofs.Constants.{loaded-length}
+use Rattle.jit.specs.Slots.{regOf, targetOf, swap, helperCall, localCall, lowerHalf, lowest16, clears, cleared, truncated, slotCode}
 use Rattle.jit.specs.Room.{shortSlot, longSlot}
 
 -- the sum of what each instruction can get, where it is a number
@@ -61,9 +63,16 @@ load-most : (d v : ℕ) → len {D = Dest} (op (loadImm d v)) ≤ 10
 unfolding loadImm
 load-most d v = by (ltb ((v + 2 ^ 31) % 2 ^ 64) (2 ^ 32))
   where
-    by : (t : Bool) → len {D = Dest} (op (pick t (aluImm MOV W64 d (v % 2 ^ 32)) (movabs d v))) ≤ 10
+    by : (t : Bool) → len {D = Dest} (op (pick t (aluImm MOV W64 d (v % 2 ^ 32)) (movImm W64 d v))) ≤ 10
     by true = omega (arith, plain-most (aluImm MOV W64 d (v % 2 ^ 32)))
-    by false = plain-most (movabs d v)
+    by false = plain-most (movImm W64 d v)
+
+-- a constant that is loaded is no longer than in the Rust
+constant-most : (m : Mode) (d v : ℕ) → len {D = Dest} (op (loaded m (loadImm d v))) ≤ 10
+constant-most m d v = le-trans (loaded-length m (loadImm d v)) (load-most d v)
+
+imm-load-most : (m : Mode) (w : Width) (d v : ℕ) → len {D = Dest} (op (loaded m (aluImm MOV w d v))) ≤ 7
+imm-load-most m w d v = le-trans (loaded-length m (aluImm MOV w d v)) (plain-most (aluImm MOV w d v))
 
 operate-most : (o : MulOp) (w : Width) → size (operate o w) ≤ 5
 unfolding rex
@@ -97,31 +106,31 @@ computed-most o w operand d {k} h =
     let s : size (saves d) ≤ 2 = both (saved d RAX) (saved d RDX) (saved-most d RAX (omega arith)) (saved-most d RDX (omega arith)) in
     omega (arith, both (saves d) (operand ++ operated o w d) s (both operand (operated o w d) h t))
 
-guard-most : (o : MulOp) (slot : ℕ) (w : Width) (s d : ℕ) → size (guard o slot w s d) ≤ 24
-guard-most Mul slot w s d = omega arith
-guard-most Div slot w s d = omega (arith, plain-most (aluImm MOV W64 RCX slot), plain-most (alu TEST w s s), plain-most (alu XOR W32 d d))
-guard-most Mod slot w s d = omega (arith, plain-most (aluImm MOV W64 RCX slot), plain-most (alu TEST w s s))
+guard-most : (m : Mode) (o : MulOp) (slot : ℕ) (w : Width) (s d : ℕ) → size (guard m o slot w s d) ≤ 24
+guard-most m Mul slot w s d = omega arith
+guard-most m Div slot w s d = omega (arith, imm-load-most m W64 RCX slot, plain-most (alu TEST w s s), plain-most (alu XOR W32 d d))
+guard-most m Mod slot w s d = omega (arith, imm-load-most m W64 RCX slot, plain-most (alu TEST w s s))
 
 zero-most : (o : MulOp) (d : ℕ) → size (byZero o d) ≤ 3
 zero-most Mul d = omega (arith, plain-most (alu XOR W32 d d))
 zero-most Div d = omega (arith, plain-most (alu XOR W32 d d))
 zero-most Mod d = omega arith
 
-imm-most : (o : MulOp) (w : Width) (d i : ℕ) → size (mulDivModImm o w d i) ≤ 22
-imm-most o w d i =
-    chosen (eqb i 0) (byZero o d) (computed o w (op (aluImm MOV W64 RCX i) ∷ []) d) (omega (arith, zero-most o d))
-    (omega (arith, computed-most o w (op (aluImm MOV W64 RCX i) ∷ []) d {k = 7} (omega (arith, plain-most (aluImm MOV W64 RCX i)))))
+imm-most : (m : Mode) (o : MulOp) (w : Width) (d i : ℕ) → size (mulDivModImm m o w d i) ≤ 22
+imm-most m o w d i =
+    chosen (eqb i 0) (byZero o d) (computed o w (op (loaded m (aluImm MOV W64 RCX i)) ∷ []) d) (omega (arith, zero-most o d))
+    (omega (arith, computed-most o w (op (loaded m (aluImm MOV W64 RCX i)) ∷ []) d {k = 7} (omega (arith, imm-load-most m W64 RCX i))))
 
-reg-most : (o : MulOp) (slot : ℕ) (w : Width) (s d : ℕ) → size (mulDivModReg o slot w s d) ≤ longSlot
-reg-most o slot w s d =
-    both (guard o slot w s d) (computed o w (op (alu MOV W64 s RCX) ∷ []) d) (guard-most o slot w s d)
+reg-most : (m : Mode) (o : MulOp) (slot : ℕ) (w : Width) (s d : ℕ) → size (mulDivModReg m o slot w s d) ≤ longSlot
+reg-most m o slot w s d =
+    both (guard m o slot w s d) (computed o w (op (alu MOV W64 s RCX) ∷ []) d) (guard-most m o slot w s d)
     (computed-most o w (op (alu MOV W64 s RCX) ∷ []) d {k = 3} (omega (arith, plain-most (alu MOV W64 s RCX))))
 
 -- MOD has a shorter guard than DIV, and so room for what standard mode puts ahead of it
-mod-most : (slot : ℕ) (w : Width) (s d : ℕ) → size (mulDivModReg Mod slot w s d) ≤ 34
-mod-most slot w s d =
-    both (guard Mod slot w s d) (computed Mod w (op (alu MOV W64 s RCX) ∷ []) d) {j = 16} {k = 18}
-    (omega (arith, plain-most (aluImm MOV W64 RCX slot), plain-most (alu TEST w s s)))
+mod-most : (m : Mode) (slot : ℕ) (w : Width) (s d : ℕ) → size (mulDivModReg m Mod slot w s d) ≤ 34
+mod-most m slot w s d =
+    both (guard m Mod slot w s d) (computed Mod w (op (alu MOV W64 s RCX) ∷ []) d) {j = 16} {k = 18}
+    (omega (arith, imm-load-most m W64 RCX slot, plain-most (alu TEST w s s)))
     (computed-most Mod w (op (alu MOV W64 s RCX) ∷ []) d {k = 3} (omega (arith, plain-most (alu MOV W64 s RCX))))
 
 lower-most : (d : ℕ) → size (lowerHalf d) ≤ 3
@@ -131,13 +140,13 @@ cleared-most : (m : Mode) (o : MulOp) (w : Width) (s : Source) (i : Insn) → si
 cleared-most m o w s i =
     chosen (clears m o w s (i .imm)) (lowerHalf (regOf (i .dst))) [] (lower-most (regOf (i .dst))) (omega arith)
 
-by-imm-most : (m : Mode) (o : MulOp) (w : Width) (i : Insn) → size (cleared m o w Imm i ++ mulDivModImm o w (regOf (i .dst)) (i .imm)) ≤ longSlot
+by-imm-most : (m : Mode) (o : MulOp) (w : Width) (i : Insn) → size (cleared m o w Imm i ++ mulDivModImm m o w (regOf (i .dst)) (i .imm)) ≤ longSlot
 by-imm-most m o w i =
     let d = regOf (i .dst) in
-    omega (arith, both (cleared m o w Imm i) (mulDivModImm o w d (i .imm)) (cleared-most m o w Imm i) (imm-most o w d (i .imm)))
+    omega (arith, both (cleared m o w Imm i) (mulDivModImm m o w d (i .imm)) (cleared-most m o w Imm i) (imm-most m o w d (i .imm)))
 
 by-reg-most : (m : Mode) (o : MulOp) (slot : ℕ) (w : Width) (i : Insn)
-    → size (cleared m o w Reg i ++ mulDivModReg o slot w (regOf (i .src)) (regOf (i .dst))) ≤ longSlot
+    → size (cleared m o w Reg i ++ mulDivModReg m o slot w (regOf (i .src)) (regOf (i .dst))) ≤ longSlot
 by-reg-most m o slot w i = by o
   where
     s : ℕ
@@ -147,14 +156,14 @@ by-reg-most m o slot w i = by o
     d = regOf (i .dst)
 
     -- nothing is put ahead of MUL and DIV
-    alone : (o : MulOp) (b : Bool) → size (when (b && false) (lowerHalf d) ++ mulDivModReg o slot w s d) ≤ longSlot
-    alone o true = reg-most o slot w s d
-    alone o false = reg-most o slot w s d
+    alone : (o : MulOp) (b : Bool) → size (when (b && false) (lowerHalf d) ++ mulDivModReg m o slot w s d) ≤ longSlot
+    alone o true = reg-most m o slot w s d
+    alone o false = reg-most m o slot w s d
 
-    by : (o : MulOp) → size (cleared m o w Reg i ++ mulDivModReg o slot w s d) ≤ longSlot
+    by : (o : MulOp) → size (cleared m o w Reg i ++ mulDivModReg m o slot w s d) ≤ longSlot
     by Mul = alone Mul (m .standard)
     by Div = alone Div (m .standard)
-    by Mod = omega (arith, both (cleared m Mod w Reg i) (mulDivModReg Mod slot w s d) (cleared-most m Mod w Reg i) (mod-most slot w s d))
+    by Mod = omega (arith, both (cleared m Mod w Reg i) (mulDivModReg m Mod slot w s d) (cleared-most m Mod w Reg i) (mod-most m slot w s d))
 
 truncated-most : (d bits : ℕ) → size (truncated d bits) ≤ shortSlot
 truncated-most d bits =
@@ -167,9 +176,9 @@ swap-most d bits =
     (omega (arith, plain-most (rol16 d 8), plain-most (aluImm AND W32 d 0xffff)))
     (chosen (eqb bits 32) (op (bswap W32 d) ∷ []) (op (bswap W64 d) ∷ []) (omega (arith, plain-most (bswap W32 d))) (omega (arith, plain-most (bswap W64 d))))
 
-call-most : (t : Bool) (value target : ℕ) → size (pick t (helperCall value) (localCall target)) ≤ longSlot
+call-most : (m : Mode) (t : Bool) (value target : ℕ) → size (pick t (helperCall m value) (localCall target)) ≤ longSlot
 unfolding rex
-call-most t value target = chosen t (helperCall value) (localCall target) (omega (arith, load-most RAX value)) (omega arith)
+call-most m t value target = chosen t (helperCall m value) (localCall target) (omega (arith, constant-most m RAX value)) (omega arith)
 
 -- a division and a call are the long ones
 abbrev pub mostOf : Kind → ℕ
@@ -194,7 +203,7 @@ mostOf Exit = shortSlot
 pub slot-within : (m : Mode) (k : Kind) (slot : ℕ) (i : Insn) (value : ℕ) → size (slotCode m k slot i value) ≤ mostOf k
 slot-within m (LdAbs z) slot i value = listing shortSlot (slotCode m (LdAbs z) slot i value) tt
 slot-within m (LdInd z) slot i value = listing shortSlot (slotCode m (LdInd z) slot i value) tt
-slot-within m LdDwImm slot i value = omega (arith, load-most (regOf (i .dst)) value)
+slot-within m LdDwImm slot i value = omega (arith, constant-most m (regOf (i .dst)) value)
 slot-within m (LdReg z) slot i value = listing shortSlot (slotCode m (LdReg z) slot i value) tt
 slot-within m (StImm z) slot i value = listing shortSlot (slotCode m (StImm z) slot i value) tt
 slot-within m (StReg z) slot i value = listing shortSlot (slotCode m (StReg z) slot i value) tt
@@ -205,14 +214,14 @@ slot-within m (Shift o w Reg) slot i value = listing shortSlot (slotCode m (Shif
 slot-within m (Neg w) slot i value = listing shortSlot (slotCode m (Neg w) slot i value) tt
 slot-within m (MulDivMod o w Imm) slot i value = by-imm-most m o w i
 slot-within m (MulDivMod o w Reg) slot i value = by-reg-most m o slot w i
-slot-within m (Mov w Imm) slot i value = listing shortSlot (slotCode m (Mov w Imm) slot i value) tt
+slot-within m (Mov w Imm) slot i value = omega (arith, imm-load-most m w (regOf (i .dst)) (i .imm))
 slot-within m (Mov w Reg) slot i value = listing shortSlot (slotCode m (Mov w Reg) slot i value) tt
 slot-within m Le slot i value = let d = regOf (i .dst) in chosen (m .standard) (truncated d (i .imm)) [] (truncated-most d (i .imm)) (omega arith)
 slot-within m Be slot i value = swap-most (regOf (i .dst)) (i .imm)
 slot-within m Ja slot i value = listing shortSlot (slotCode m Ja slot i value) tt
 slot-within m (Jump c w Imm) slot i value = listing shortSlot (slotCode m (Jump c w Imm) slot i value) tt
 slot-within m (Jump c w Reg) slot i value = listing shortSlot (slotCode m (Jump c w Reg) slot i value) tt
-slot-within m Call slot i value = call-most (eqb (i .src) 0) value (targetOf slot (i .imm))
+slot-within m Call slot i value = call-most m (eqb (i .src) 0) value (targetOf slot (i .imm))
 slot-within m Exit slot i value = listing shortSlot (slotCode m Exit slot i value) tt
 
 pub slot-most : (m : Mode) (k : Kind) (slot : ℕ) (i : Insn) (value : ℕ) → size (slotCode m k slot i value) ≤ longSlot
@@ -271,20 +280,20 @@ computed-none o w operand d h =
     rw (jumps-both (saves d) (operand ++ operated o w d), jumps-both operand (operated o w d), jumps-both (saved d RAX) (saved d RDX), jumps-both (operate o w) (restores o d))
     (omega (arith, jumps-unless d RAX (op (push RAX) ∷ []) (omega arith), jumps-unless d RDX (op (push RDX) ∷ []) (omega arith), operate-none o w, restores-none o d))
 
-guard-jumps : (o : MulOp) (slot : ℕ) (w : Width) (s d : ℕ) → jumpsIn (guard o slot w s d) ≤ 1
-guard-jumps Mul slot w s d = omega arith
-guard-jumps Div slot w s d = omega arith
-guard-jumps Mod slot w s d = omega arith
+guard-jumps : (m : Mode) (o : MulOp) (slot : ℕ) (w : Width) (s d : ℕ) → jumpsIn (guard m o slot w s d) ≤ 1
+guard-jumps m Mul slot w s d = omega arith
+guard-jumps m Div slot w s d = omega arith
+guard-jumps m Mod slot w s d = omega arith
 
 pub zero-none : (o : MulOp) (d : ℕ) → jumpsIn (byZero o d) ≤ 0
 zero-none Mul d = omega arith
 zero-none Div d = omega arith
 zero-none Mod d = omega arith
 
-pub imm-jumps : (o : MulOp) (w : Width) (d i : ℕ) → length (targetsOf (mulDivModImm o w d i)) ≤ 0
-imm-jumps o w d i =
-    jumps-chosen (eqb i 0) (byZero o d) (computed o w (op (aluImm MOV W64 RCX i) ∷ []) d) (zero-none o d)
-    (computed-none o w (op (aluImm MOV W64 RCX i) ∷ []) d (omega arith))
+pub imm-jumps : (m : Mode) (o : MulOp) (w : Width) (d i : ℕ) → length (targetsOf (mulDivModImm m o w d i)) ≤ 0
+imm-jumps m o w d i =
+    jumps-chosen (eqb i 0) (byZero o d) (computed o w (op (loaded m (aluImm MOV W64 RCX i)) ∷ []) d) (zero-none o d)
+    (computed-none o w (op (loaded m (aluImm MOV W64 RCX i)) ∷ []) d (omega arith))
 
 pub swap-jumps : (d bits : ℕ) → length (targetsOf (swap d bits)) ≤ 0
 swap-jumps d bits =
@@ -316,12 +325,12 @@ slot-jumps m (Shift o w Reg) slot i value = omega arith
 slot-jumps m (Neg w) slot i value = omega arith
 slot-jumps m (MulDivMod o w Imm) slot i value =
     let d = regOf (i .dst) in
-    rw (jumps-both (cleared m o w Imm i) (mulDivModImm o w d (i .imm))) (omega (arith, cleared-jumps m o w Imm i, imm-jumps o w d (i .imm)))
+    rw (jumps-both (cleared m o w Imm i) (mulDivModImm m o w d (i .imm))) (omega (arith, cleared-jumps m o w Imm i, imm-jumps m o w d (i .imm)))
 slot-jumps m (MulDivMod o w Reg) slot i value =
     let s = regOf (i .src) in
     let d = regOf (i .dst) in
-    rw (jumps-both (cleared m o w Reg i) (mulDivModReg o slot w s d), jumps-both (guard o slot w s d) (computed o w (op (alu MOV W64 s RCX) ∷ []) d))
-    (omega (arith, cleared-jumps m o w Reg i, guard-jumps o slot w s d, computed-none o w (op (alu MOV W64 s RCX) ∷ []) d (omega arith)))
+    rw (jumps-both (cleared m o w Reg i) (mulDivModReg m o slot w s d), jumps-both (guard m o slot w s d) (computed o w (op (alu MOV W64 s RCX) ∷ []) d))
+    (omega (arith, cleared-jumps m o w Reg i, guard-jumps m o slot w s d, computed-none o w (op (alu MOV W64 s RCX) ∷ []) d (omega arith)))
 slot-jumps m (Mov w Imm) slot i value = omega arith
 slot-jumps m (Mov w Reg) slot i value = omega arith
 slot-jumps m Le slot i value = omega (arith, truncated-jumps m (regOf (i .dst)) (i .imm))
@@ -329,5 +338,5 @@ slot-jumps m Be slot i value = omega (arith, swap-jumps (regOf (i .dst)) (i .imm
 slot-jumps m Ja slot i value = omega arith
 slot-jumps m (Jump c w Imm) slot i value = omega arith
 slot-jumps m (Jump c w Reg) slot i value = omega arith
-slot-jumps m Call slot i value = jumps-chosen (eqb (i .src) 0) (helperCall value) (localCall (targetOf slot (i .imm))) (omega arith) (omega arith)
+slot-jumps m Call slot i value = jumps-chosen (eqb (i .src) 0) (helperCall m value) (localCall (targetOf slot (i .imm))) (omega arith) (omega arith)
 slot-jumps m Exit slot i value = omega arith

@@ -1,5 +1,6 @@
--- Worked bytes, as rbpf gives them, and behind them those of standard mode: one table under one theorem about the definitions, which antt
--- computes. Both flags are false and no helper is listed; the page has 4,096 bytes. A refused program's line has its number and its slot.
+-- Worked bytes, as rbpf gives them, and behind them those of standard mode and of compact constants: one table under one theorem about the
+-- definitions, which antt computes. Both flags are false and two helpers are listed; the page has 4,096 bytes. A refused program's line has
+-- its number and its slot.
 use mathlib.Core.Path.{_≡_, refl}
 use mathlib.Core.Bool.{false}
 use mathlib.Core.List.{List, [], _∷_, _++_, map}
@@ -9,13 +10,15 @@ use Rattle.ebpf.specs.Insn.{insnAt, readAt}
 use Rattle.ebpf.specs.Opcode.{kindOf}
 use Rattle.x86.specs.Encode.{rex, modrm, memory, bare, short}
 use Rattle.x86.specs.Fill.{blanks}
-use Rattle.jit.specs.Slots.{regOf, targetOf, loadImm}
+use Rattle.jit.specs.Constants.{loadImm}
+use Rattle.jit.specs.Slots.{regOf, targetOf}
 use Rattle.jit.specs.Frame.{saves, packetStart, packetEnd, argument, enter, prologue, epilogue}
 use Rattle.jit.specs.Translation.{Inputs, Walk, refused, done, flat, walkOf, rest, stepAt, helperOf, goodTarget, Outcome, no, yes, sizesOf, translationOf}
 use Rattle.jit.specs.JumpTables.{kindsIn, makersIn}
 use Rattle.jit.specs.Refusals.{numberOf, slotOf}
 use Rattle.jit.specs.declared.Mode.{Mode}
-use Rattle.jit.specs.Modes.{rust, standard}
+use Rattle.jit.specs.Modes.{rust, standard, compact}
+use Rattle.jit.specs.Compact.{compactOn}
 
 -- what a line of the document speaks of
 pub data Part : Type 0 where
@@ -42,7 +45,7 @@ pub record Line : Type 0 where
 abbrev inputs : Mode → List ℕ → Inputs
 inputs mode program =
     record {
-      filter = record { program = program; mode = mode; ids = []; addresses = [] };
+      filter = record { program = program; mode = mode; ids = 1 ∷ 2 ∷ []; addresses = 0x401000 ∷ 0x7f0000401000 ∷ [] };
       flags = record { use_mbuff = false; update_data_ptr = false };
       page = 4096;
       locations = 2049;
@@ -75,6 +78,12 @@ line program part bytes = record { mode = rust; program = program; part = part; 
 
 abbrev standardLine : List ℕ → Part → List ℕ → Line
 standardLine program part bytes = record { mode = standard; program = program; part = part; bytes = bytes }
+
+abbrev compactLine : List ℕ → Part → List ℕ → Line
+compactLine program part bytes = record { mode = compact; program = program; part = part; bytes = bytes }
+
+abbrev bothLine : List ℕ → Part → List ℕ → Line
+bothLine program part bytes = record { mode = compactOn standard; program = program; part = part; bytes = bytes }
 
 -- a wide load, slots 0 and 1; JEQ, JA, DIV and MOD by a register, a local call, EXIT
 abbrev jumping : List ℕ
@@ -145,7 +154,54 @@ table =
     standardLine (slot 0xd4 0x00 0 0 32 0 0 0) slots (0x89 ∷ 0xc0 ∷ []) ∷
     standardLine (slot 0xd4 0x00 0 0 64 0 0 0) slots [] ∷
     standardLine (slot 0xd4 0x00 0 0 8 0 0 0) slots (10 ∷ 0 ∷ []) ∷
-    standardLine (slot 0xdc 0x00 0 0 8 0 0 0) slots (10 ∷ 0 ∷ []) ∷ []
+    standardLine (slot 0xdc 0x00 0 0 8 0 0 0) slots (10 ∷ 0 ∷ []) ∷
+    -- COMPACT: a wide load of 0, 2147483648 and 4294967295 to r0, and of 1 to r7, which is R13
+    compactLine (slot 0x18 0x00 0 0 0x00 0x00 0x00 0x00 ++ slot 0 0 0 0 0x00 0x00 0x00 0x00) slots (0xb8 ∷ 0x00 ∷ 0x00 ∷ 0x00 ∷ 0x00 ∷ []) ∷
+    compactLine (slot 0x18 0x00 0 0 0x00 0x00 0x00 0x80 ++ slot 0 0 0 0 0x00 0x00 0x00 0x00) slots (0xb8 ∷ 0x00 ∷ 0x00 ∷ 0x00 ∷ 0x80 ∷ []) ∷
+    compactLine (slot 0x18 0x00 0 0 0xff 0xff 0xff 0xff ++ slot 0 0 0 0 0x00 0x00 0x00 0x00) slots (0xb8 ∷ 0xff ∷ 0xff ∷ 0xff ∷ 0xff ∷ []) ∷
+    compactLine (slot 0x18 0x07 0 0 0x01 0x00 0x00 0x00 ++ slot 0 0 0 0 0x00 0x00 0x00 0x00) slots (0x41 ∷ 0xbd ∷ 0x01 ∷ 0x00 ∷ 0x00 ∷ 0x00 ∷ []) ∷
+    -- of 4294967296, which has eight bytes, and of -1, which keeps its four and REX.W
+    compactLine (slot 0x18 0x00 0 0 0x00 0x00 0x00 0x00 ++ slot 0 0 0 0 0x01 0x00 0x00 0x00) slots
+    (0x48 ∷ 0xb8 ∷ 0x00 ∷ 0x00 ∷ 0x00 ∷ 0x00 ∷ 0x01 ∷ 0x00 ∷ 0x00 ∷ 0x00 ∷ []) ∷
+    compactLine (slot 0x18 0x00 0 0 0xff 0xff 0xff 0xff ++ slot 0 0 0 0 0xff 0xff 0xff 0xff) slots
+    (0x48 ∷ 0xc7 ∷ 0xc0 ∷ 0xff ∷ 0xff ∷ 0xff ∷ 0xff ∷ []) ∷
+    -- MOV64_IMM r0 of 2147483647, of -2147483648 and of -1, which are negative; r7 of 5; MOV32_IMM r0 of 5, as it is in rbpf
+    compactLine (slot 0xb7 0x00 0 0 0xff 0xff 0xff 0x7f) slots (0xb8 ∷ 0xff ∷ 0xff ∷ 0xff ∷ 0x7f ∷ []) ∷
+    compactLine (slot 0xb7 0x00 0 0 0x00 0x00 0x00 0x80) slots (0x48 ∷ 0xc7 ∷ 0xc0 ∷ 0x00 ∷ 0x00 ∷ 0x00 ∷ 0x80 ∷ []) ∷
+    compactLine (slot 0xb7 0x00 0 0 0xff 0xff 0xff 0xff) slots (0x48 ∷ 0xc7 ∷ 0xc0 ∷ 0xff ∷ 0xff ∷ 0xff ∷ 0xff ∷ []) ∷
+    compactLine (slot 0xb7 0x07 0 0 5 0 0 0) slots (0x41 ∷ 0xbd ∷ 0x05 ∷ 0x00 ∷ 0x00 ∷ 0x00 ∷ []) ∷
+    compactLine (slot 0xb4 0x00 0 0 5 0 0 0) slots (0xc7 ∷ 0xc0 ∷ 0x05 ∷ 0x00 ∷ 0x00 ∷ 0x00 ∷ []) ∷
+    -- MUL64_IMM r1 by 3, and by -1
+    compactLine (slot 0x27 0x01 0 0 3 0 0 0) slots
+    (0x50 ∷ 0x52 ∷ 0xb9 ∷ 0x03 ∷ 0x00 ∷ 0x00 ∷ 0x00 ∷ 0x48 ∷ 0x89 ∷ 0xf8 ∷ 0x48 ∷ 0xf7 ∷ 0xe1 ∷ 0x5a ∷ 0x48 ∷ 0x89 ∷ 0xc7
+    ∷ 0x58 ∷ []) ∷
+    compactLine (slot 0x27 0x01 0 0 0xff 0xff 0xff 0xff) slots
+    (0x50 ∷ 0x52 ∷ 0x48 ∷ 0xc7 ∷ 0xc1 ∷ 0xff ∷ 0xff ∷ 0xff ∷ 0xff ∷ 0x48 ∷ 0x89 ∷ 0xf8 ∷ 0x48 ∷ 0xf7 ∷ 0xe1 ∷ 0x5a ∷ 0x48
+    ∷ 0x89 ∷ 0xc7 ∷ 0x58 ∷ []) ∷
+    -- DIV64_REG r0 by r1: the slot's number
+    compactLine (slot 0x3f 0x10 0 0 0 0 0 0) unfilled
+    (0xb9 ∷ 0x00 ∷ 0x00 ∷ 0x00 ∷ 0x00 ∷ 0x48 ∷ 0x85 ∷ 0xff ∷ 0x0f ∷ 0x85 ∷ 0x07 ∷ 0x00 ∷ 0x00 ∷ 0x00 ∷ 0x31 ∷ 0xc0 ∷ 0xe9
+    ∷ 0x00 ∷ 0x00 ∷ 0x00 ∷ 0x00 ∷ 0x52 ∷ 0x48 ∷ 0x89 ∷ 0xf9 ∷ 0x48 ∷ 0x89 ∷ 0xc0 ∷ 0x31 ∷ 0xd2 ∷ 0x48 ∷ 0xf7 ∷ 0xf1 ∷ 0x5a ∷ []) ∷
+    -- a helper's address, 0x401000, without the flag and with it; 0x7f0000401000
+    line (slot 0x85 0x00 0 0 1 0 0 0) slots (0x4c ∷ 0x89 ∷ 0xc9 ∷ 0x48 ∷ 0xc7 ∷ 0xc0 ∷ 0x00 ∷ 0x10 ∷ 0x40 ∷ 0x00 ∷ 0xff ∷ 0xd0 ∷ []) ∷
+    compactLine (slot 0x85 0x00 0 0 1 0 0 0) slots (0x4c ∷ 0x89 ∷ 0xc9 ∷ 0xb8 ∷ 0x00 ∷ 0x10 ∷ 0x40 ∷ 0x00 ∷ 0xff ∷ 0xd0 ∷ []) ∷
+    compactLine (slot 0x85 0x00 0 0 2 0 0 0) slots
+    (0x4c ∷ 0x89 ∷ 0xc9 ∷ 0x48 ∷ 0xb8 ∷ 0x00 ∷ 0x10 ∷ 0x40 ∷ 0x00 ∷ 0x00 ∷ 0x7f ∷ 0x00 ∷ 0x00 ∷ 0xff ∷ 0xd0 ∷ []) ∷
+    -- JEQ_IMM and ADD64_IMM of 5, ST_DW_IMM of 5 at r10: what is compared, added or stored is not loaded
+    compactLine (slot 0x15 0x00 0 0 5 0 0 0) unfilled
+    (0x48 ∷ 0x81 ∷ 0xf8 ∷ 0x05 ∷ 0x00 ∷ 0x00 ∷ 0x00 ∷ 0x0f ∷ 0x84 ∷ 0x00 ∷ 0x00 ∷ 0x00 ∷ 0x00 ∷ []) ∷
+    compactLine (slot 0x07 0x00 0 0 5 0 0 0) slots (0x48 ∷ 0x81 ∷ 0xc0 ∷ 0x05 ∷ 0x00 ∷ 0x00 ∷ 0x00 ∷ []) ∷
+    compactLine (slot 0x7a 0x0a 0xf8 0xff 5 0 0 0) slots (0x48 ∷ 0xc7 ∷ 0x45 ∷ 0xf8 ∷ 0x05 ∷ 0x00 ∷ 0x00 ∷ 0x00 ∷ []) ∷
+    -- MOV64_IMM r0 of 1 and EXIT: L 56, where it was 58; the jumps behind a wide load that got shorter
+    compactLine (slot 0xb7 0x00 0 0 1 0 0 0 ++ slot 0x95 0x00 0 0 0 0 0 0) lengths (56 ∷ 1 ∷ []) ∷
+    line (slot 0xb7 0x00 0 0 1 0 0 0 ++ slot 0x95 0x00 0 0 0 0 0 0) lengths (58 ∷ 1 ∷ []) ∷
+    compactLine jumping kinds (2 ∷ 1 ∷ 2 ∷ 2 ∷ 1 ∷ 3 ∷ []) ∷
+    compactLine jumping makers (8 ∷ 2 ∷ 3 ∷ 4 ∷ 5 ∷ 6 ∷ []) ∷
+    -- BOTH: MOD32_REG r1 by r2; MOV64_IMM r0 of 5
+    bothLine (slot 0x9c 0x21 0 0 0 0 0 0) unfilled
+    (0x89 ∷ 0xff ∷ 0xb9 ∷ 0x00 ∷ 0x00 ∷ 0x00 ∷ 0x00 ∷ 0x85 ∷ 0xf6 ∷ 0x0f ∷ 0x84 ∷ 0x00 ∷ 0x00 ∷ 0x00 ∷ 0x00 ∷ 0x50 ∷ 0x52
+    ∷ 0x48 ∷ 0x89 ∷ 0xf1 ∷ 0x48 ∷ 0x89 ∷ 0xf8 ∷ 0x31 ∷ 0xd2 ∷ 0xf7 ∷ 0xf1 ∷ 0x48 ∷ 0x89 ∷ 0xd7 ∷ 0x5a ∷ 0x58 ∷ []) ∷
+    bothLine (slot 0xb7 0x00 0 0 5 0 0 0) slots (0xb8 ∷ 0x05 ∷ 0x00 ∷ 0x00 ∷ 0x00 ∷ []) ∷ []
 
 pub worked : map given table ≡ map (λ (x : Line). x .bytes) table
 unfolding table translationOf sizesOf rest stepAt helperOf goodTarget readAt insnAt kindOf regOf targetOf loadImm

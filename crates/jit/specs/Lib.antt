@@ -1,6 +1,7 @@
 pub mod Limits
 pub mod Room
 pub mod Refusals
+pub mod Constants
 pub mod MulDivMod
 pub mod Slots
 pub mod Frame
@@ -9,3 +10,4 @@ pub mod JumpTables
 pub mod Lent
 pub mod Passes
 pub mod Modes
+pub mod Compact

@@ -1,6 +1,6 @@
--- The two modes: with `standard` off the code is the Rust's. With it on the slots that are named here have code of their own (Slots.antt); every
--- other slot has the Rust's instructions, and so has the frame, which knows of no mode (Frame.antt). `Modes` says it; proofs/ModesLaws.antt
--- proves it.
+-- The modes: with both flags off the code is the Rust's. With `standard` the slots that are named here have code of their own (Slots.antt); every
+-- other slot keeps its instructions, and so does the frame, which knows of no mode (Frame.antt). `Modes` says it, and proofs/ModesLaws.antt
+-- proves it. What `compact` changes is in Compact.antt.
 use mathlib.Core.Path.{_≡_}
 use mathlib.Core.Bool.{Bool, true, false}
 use mathlib.Core.List.{List}
@@ -20,10 +20,16 @@ use Rattle.jit.specs.Slots.{leavesDst, slotCode}
 use Rattle.jit.specs.Translation.{Filter, Inputs, translationOf}
 
 abbrev pub rust : Mode
-rust = record { standard = false }
+rust = record { standard = false; compact = false }
 
 abbrev pub standard : Mode
-standard = record { standard = true }
+standard = record { standard = true; compact = false }
+
+abbrev pub compact : Mode
+compact = record { standard = false; compact = true }
+
+abbrev pub standardOff : Mode → Mode
+standardOff m = record { standard = false; compact = m .compact }
 
 -- MOD32 by a register or by the immediate 0, MOV32_REG, LE
 abbrev pub named : Kind → Insn → Bool
@@ -56,14 +62,14 @@ namedAs (Known k) i = named k i
 abbrev pub namedAt : (program : List ℕ) → (slot : ℕ) → Bool
 namedAt program slot = namedAs (kindOf (insnAt program slot .opc)) (insnAt program slot)
 
--- what is asked, with the mode off
-abbrev pub inRust : Filter → Filter
-inRust filter = record { program = filter .program; mode = rust; ids = filter .ids; addresses = filter .addresses }
+-- what is asked, in another mode
+abbrev pub inMode : (Mode → Mode) → Filter → Filter
+inMode f filter = record { program = filter .program; mode = f (filter .mode); ids = filter .ids; addresses = filter .addresses }
 
-abbrev pub askedInRust : Inputs → Inputs
-askedInRust x =
+abbrev pub askedIn : (Mode → Mode) → Inputs → Inputs
+askedIn f x =
     record {
-      filter = inRust (x .filter);
+      filter = inMode f (x .filter);
       flags = x .flags;
       page = x .page;
       locations = x .locations;
@@ -74,8 +80,9 @@ askedInRust x =
     }
 
 pub record Modes : Type 0 where
-  -- a slot that is not named has the Rust's instructions in every mode
-  pub slots : (m : Mode) (k : Kind) (i : Insn) → named k i ≡ false → (slot value : ℕ) → slotCode m k slot i value ≡ slotCode rust k slot i value
-  -- .. and a program that has no named slot has the Rust's answer: its code and tables, or its refusal
+  -- a slot that is not named has the same instructions with `standard` on and off
+  pub slots : (m : Mode) (k : Kind) (i : Insn) → named k i ≡ false
+      → (slot value : ℕ) → slotCode m k slot i value ≡ slotCode (standardOff m) k slot i value
+  -- .. and a program that has no named slot has the same answer: its code and tables, or its refusal
   pub programs : (x : Inputs) → ((slot : ℕ) → 8 * slot + 8 ≤ length (x .filter .program) → namedAt (x .filter .program) slot ≡ false)
-      → translationOf x ≡ translationOf (askedInRust x)
+      → translationOf x ≡ translationOf (askedIn standardOff x)

@@ -11,6 +11,8 @@ use Rattle.ebpf.specs.declared.kind.MulOp.the-variants.{Mul, Div, Mod}
 use Rattle.x86.specs.Registers.{RAX, RCX, RDX}
 use Rattle.x86.specs.Instr.{Instr, op, push, pop, alu, aluImm, unary, jump, jmp, jcc, MOV, XOR, TEST, MUL, DIV, JE, JNE}
 use Rattle.x86.specs.Code.{Dest, near, to, size}
+use Rattle.jit.specs.declared.Mode.{Mode}
+use Rattle.jit.specs.Constants.{loaded}
 
 abbrev pub Code : Type 0
 Code = List (Instr Dest)
@@ -32,13 +34,13 @@ byZero Mod dst = []
 abbrev pub divByZero : (slot dst : ℕ) → Code
 divByZero slot dst = op (alu XOR W32 dst dst) ∷ jump jmp (to (slot + 1)) ∷ []
 
-abbrev pub tested : (slot : ℕ) → Width → (src : ℕ) → Code
-tested slot w src = op (aluImm MOV W64 RCX slot) ∷ op (alu TEST w src src) ∷ []
+abbrev pub tested : Mode → (slot : ℕ) → Width → (src : ℕ) → Code
+tested m slot w src = op (loaded m (aluImm MOV W64 RCX slot)) ∷ op (alu TEST w src src) ∷ []
 
-abbrev pub guard : MulOp → (slot : ℕ) → Width → (src dst : ℕ) → Code
-guard Mul slot w src dst = []
-guard Div slot w src dst = tested slot w src ++ (jump (jcc JNE) (near (size (divByZero slot dst))) ∷ divByZero slot dst)
-guard Mod slot w src dst = tested slot w src ++ (jump (jcc JE) (to (slot + 1)) ∷ [])
+abbrev pub guard : Mode → MulOp → (slot : ℕ) → Width → (src dst : ℕ) → Code
+guard m Mul slot w src dst = []
+guard m Div slot w src dst = tested m slot w src ++ (jump (jcc JNE) (near (size (divByZero slot dst))) ∷ divByZero slot dst)
+guard m Mod slot w src dst = tested m slot w src ++ (jump (jcc JE) (to (slot + 1)) ∷ [])
 
 -- RDX:RAX times or over RCX; a division's upper half is cleared
 abbrev pub operate : MulOp → Width → Code
@@ -73,8 +75,8 @@ operated o w dst = op (alu MOV W64 dst RAX) ∷ (operate o w ++ restores o dst)
 abbrev pub computed : MulOp → Width → (operand : Code) → (dst : ℕ) → Code
 computed o w operand dst = saves dst ++ (operand ++ operated o w dst)
 
-abbrev pub mulDivModImm : MulOp → Width → (dst imm : ℕ) → Code
-mulDivModImm o w dst imm = pick (eqb imm 0) (byZero o dst) (computed o w (op (aluImm MOV W64 RCX imm) ∷ []) dst)
+abbrev pub mulDivModImm : Mode → MulOp → Width → (dst imm : ℕ) → Code
+mulDivModImm m o w dst imm = pick (eqb imm 0) (byZero o dst) (computed o w (op (loaded m (aluImm MOV W64 RCX imm)) ∷ []) dst)
 
-abbrev pub mulDivModReg : MulOp → (slot : ℕ) → Width → (src dst : ℕ) → Code
-mulDivModReg o slot w src dst = guard o slot w src dst ++ computed o w (op (alu MOV W64 src RCX) ∷ []) dst
+abbrev pub mulDivModReg : Mode → MulOp → (slot : ℕ) → Width → (src dst : ℕ) → Code
+mulDivModReg m o slot w src dst = guard m o slot w src dst ++ computed o w (op (alu MOV W64 src RCX) ∷ []) dst

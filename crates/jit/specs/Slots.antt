@@ -4,7 +4,7 @@
 use mathlib.Core.Bool.{Bool, true, false, _&&_}
 use mathlib.Core.List.{[], _∷_, _++_}
 use Prim.Native.Nat.{ℕ, _+_, _%_, _^_}
-use lib.Dec.{ltb, eqb}
+use lib.Dec.{eqb}
 use lib.ListN.{getD}
 use Rattle.base.specs.Pick.{pick}
 use Rattle.base.specs.declared.Width.{Width}
@@ -24,10 +24,11 @@ use Rattle.ebpf.specs.declared.kind.Kind.{Kind}
 use Rattle.ebpf.specs.declared.kind.Kind.the-variants.{LdAbs, LdInd, LdDwImm, LdReg, StImm, StReg, Alu, Shift, Neg, MulDivMod, Mov, Le, Be, Ja, Jump, Call, Exit}
 use Rattle.x86.specs.Registers.{RAX, RCX, RDX, RBX, RBP, RSI, RDI, R8, R9, R10, R11, R13, R14, R15}
 use Rattle.x86.specs.Instr as x86
-use Rattle.x86.specs.Instr.{op, push, pop, alu, aluImm, shiftImm, shiftCl, unary, movabs, rol16, bswap, load, store, storeImm, immBits, jump, jmp, call, jcc}
+use Rattle.x86.specs.Instr.{op, push, pop, alu, aluImm, shiftImm, shiftCl, unary, rol16, bswap, load, store, storeImm, immBits, jump, jmp, call, jcc}
 use Rattle.x86.specs.Instr.{callReg, ret, ADD, OR, AND, SUB, XOR, CMP, MOV, TEST, SHL, SHR, SAR, NEG, JB, JAE, JE, JNE, JBE, JA, JL, JGE, JLE, JG}
 use Rattle.x86.specs.Code.{to}
 use Rattle.jit.specs.declared.Mode.{Mode}
+use Rattle.jit.specs.Constants.{loadImm, loaded}
 use Rattle.jit.specs.MulDivMod.{Code, when, mulDivModImm, mulDivModReg}
 
 -- REGISTER_MAP
@@ -37,10 +38,6 @@ regOf r = getD (RAX ∷ RDI ∷ RSI ∷ RDX ∷ R9 ∷ R8 ∷ RBX ∷ R13 ∷ R1
 -- slot + distance + 1, modulo 2 ^ 32
 unfoldable pub targetOf : (slot distance : ℕ) → ℕ
 targetOf slot distance = (slot + 1 + distance) % 2 ^ 32
-
--- `emit_load_imm`: a constant of 64 bits that is in the signed 32-bit range takes four bytes, any other eight
-unfoldable pub loadImm : (dst value : ℕ) → x86.Plain
-loadImm dst value = pick (ltb ((value + 2 ^ 31) % 2 ^ 64) (2 ^ 32)) (aluImm MOV W64 dst (value % 2 ^ 32)) (movabs dst value)
 
 abbrev pub aluOf : AluOp → x86.Alu
 aluOf Add = ADD
@@ -88,8 +85,8 @@ swap dst bits =
     (pick (eqb bits 32) (op (bswap W32 dst) ∷ []) (op (bswap W64 dst) ∷ []))
 
 -- RCX is the fourth argument of the machine's calling convention, R9 the program's
-abbrev pub helperCall : (address : ℕ) → Code
-helperCall address = op (alu MOV W64 R9 RCX) ∷ op (loadImm RAX address) ∷ callReg RAX ∷ []
+abbrev pub helperCall : Mode → (address : ℕ) → Code
+helperCall m address = op (alu MOV W64 R9 RCX) ∷ op (loaded m (loadImm RAX address)) ∷ callReg RAX ∷ []
 
 -- `emit_local_call`: r6 to r9 are the callee's to change
 abbrev pub localCall : (target : ℕ) → Code
@@ -144,12 +141,12 @@ abbrev pub shiftCode : ShiftOp → Width → Source → Insn → Code
 shiftCode o w Imm i = op (shiftImm (shiftOf o) w (regOf (i .dst)) (i .imm % 256)) ∷ []
 shiftCode o w Reg i = op (alu MOV W64 (regOf (i .src)) RCX) ∷ op (shiftCl (shiftOf o) w (regOf (i .dst))) ∷ []
 
-abbrev pub mulDivModCode : MulOp → Width → Source → (slot : ℕ) → Insn → Code
-mulDivModCode o w Imm slot i = mulDivModImm o w (regOf (i .dst)) (i .imm)
-mulDivModCode o w Reg slot i = mulDivModReg o slot w (regOf (i .src)) (regOf (i .dst))
+abbrev pub mulDivModCode : Mode → MulOp → Width → Source → (slot : ℕ) → Insn → Code
+mulDivModCode m o w Imm slot i = mulDivModImm m o w (regOf (i .dst)) (i .imm)
+mulDivModCode m o w Reg slot i = mulDivModReg m o slot w (regOf (i .src)) (regOf (i .dst))
 
 abbrev pub movCode : Mode → Width → Source → Insn → Code
-movCode m w Imm i = op (aluImm MOV w (regOf (i .dst)) (i .imm)) ∷ []
+movCode m w Imm i = op (loaded m (aluImm MOV w (regOf (i .dst)) (i .imm))) ∷ []
 movCode m w Reg i = op (alu MOV (copyWidth m w) (regOf (i .src)) (regOf (i .dst))) ∷ []
 
 -- a conditional jump: the comparison, at the operation's width, and the jump
@@ -161,15 +158,15 @@ abbrev pub jumpCode : Condition → Width → Source → (slot : ℕ) → Insn �
 jumpCode c w s slot i = op (compare c w s i) ∷ jump (jcc (condOf c)) (to (targetOf slot (i .off))) ∷ []
 
 -- src 0 is a helper, at the address `value`; src 1 a call within the program
-abbrev pub callCode : (slot : ℕ) → Insn → (value : ℕ) → Code
-callCode slot i value = pick (eqb (i .src) 0) (helperCall value) (localCall (targetOf slot (i .imm)))
+abbrev pub callCode : Mode → (slot : ℕ) → Insn → (value : ℕ) → Code
+callCode m slot i value = pick (eqb (i .src) 0) (helperCall m value) (localCall (targetOf slot (i .imm)))
 
 -- The code of a slot. `value` is what the slot takes from elsewhere: a wide load's constant, the address of a helper.
 abbrev pub slotCode : Mode → Kind → (slot : ℕ) → Insn → (value : ℕ) → Code
 -- class LD: the packet is at R10
 slotCode m (LdAbs z) slot i value = op (load z R10 RAX (i .imm)) ∷ []
 slotCode m (LdInd z) slot i value = op (alu MOV W64 R10 R11) ∷ op (alu ADD W64 (regOf (i .src)) R11) ∷ op (load z R11 RAX (i .imm)) ∷ []
-slotCode m LdDwImm slot i value = op (loadImm (regOf (i .dst)) value) ∷ []
+slotCode m LdDwImm slot i value = op (loaded m (loadImm (regOf (i .dst)) value)) ∷ []
 -- classes LDX, ST, STX
 slotCode m (LdReg z) slot i value = op (load z (regOf (i .src)) (regOf (i .dst)) (i .off)) ∷ []
 slotCode m (StImm z) slot i value = op (storeImm z (regOf (i .dst)) (i .off) (i .imm % 2 ^ immBits z)) ∷ []
@@ -178,12 +175,12 @@ slotCode m (StReg z) slot i value = op (store z (regOf (i .src)) (regOf (i .dst)
 slotCode m (Alu o w s) slot i value = aluCode o w s i
 slotCode m (Shift o w s) slot i value = shiftCode o w s i
 slotCode m (Neg w) slot i value = op (unary NEG w (regOf (i .dst))) ∷ []
-slotCode m (MulDivMod o w s) slot i value = cleared m o w s i ++ mulDivModCode o w s slot i
+slotCode m (MulDivMod o w s) slot i value = cleared m o w s i ++ mulDivModCode m o w s slot i
 slotCode m (Mov w s) slot i value = movCode m w s i
 slotCode m Le slot i value = when (m .standard) (truncated (regOf (i .dst)) (i .imm))
 slotCode m Be slot i value = swap (regOf (i .dst)) (i .imm)
 -- classes JMP, JMP32
 slotCode m Ja slot i value = jump jmp (to (targetOf slot (i .off))) ∷ []
 slotCode m (Jump c w s) slot i value = jumpCode c w s slot i
-slotCode m Call slot i value = callCode slot i value
+slotCode m Call slot i value = callCode m slot i value
 slotCode m Exit slot i value = ret ∷ []

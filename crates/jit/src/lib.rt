@@ -34,9 +34,11 @@ pub struct Flags {
     pub update_data_ptr: bool,
 }
 
-// Which code the slots get: the Rust's, or, where `standard` is set, that of RFC 9669 where the Rust parts from it (specs/Slots.antt).
+// Which code the slots get: the Rust's, unless one of these is set. With `standard` it is that of RFC 9669 where the Rust parts from it
+// (specs/Slots.antt); with `compact` constants of 0 to 4,294,967,295 take fewer bytes (specs/Constants.antt).
 pub struct Mode {
     pub standard: bool,
+    pub compact: bool,
 }
 
 // Why a program is not translated, and at which slot. The number of each is in specs/Refusals.antt.

@@ -27,10 +27,10 @@ use Rattle.jit.proofs.SlotSize.{computed-none, cleared-jumps}
 use Rattle.jit_recording.specs.Emits.{Tables, Emits}
 use Rattle.jit_recording.proofs.EmitsLaws.{plainly, emits-then}
 
-module _ (o : MulOp) (slot : ℕ) (w : Width) (src dst : ℕ) where
+module _ (m : Mode) (o : MulOp) (slot : ℕ) (w : Width) (src dst : ℕ) where
   -- the guard, and what follows it
   abbrev guarded : Code
-  guarded = guard o slot w src dst
+  guarded = guard m o slot w src dst
 
   abbrev unguarded : Code
   unguarded = computed o w (op (alu MOV W64 src RCX) ∷ []) dst
@@ -40,7 +40,7 @@ module _ (o : MulOp) (slot : ℕ) (w : Width) (src dst : ℕ) where
   moved = op (alu MOV W64 src RCX) ∷ operated o w dst
 
   -- the pieces' sizes
-  pub sizes : (size (mulDivModReg o slot w src dst) ≡ size guarded + (size (saves dst) + size moved))
+  pub sizes : (size (mulDivModReg m o slot w src dst) ≡ size guarded + (size (saves dst) + size moved))
       × ((length (blanks guarded) ≡ size guarded) × (length (blanks (saves dst)) ≡ size (saves dst)))
   sizes = (
     size-append guarded unguarded ∙ ap (λ (k : ℕ). size guarded + k) (size-append (saves dst) moved),
@@ -53,10 +53,10 @@ module _ (o : MulOp) (slot : ℕ) (w : Width) (src dst : ℕ) where
       → Wrote c₁ c₂ at₁ at₂ (blanks (saves dst))
       → Wrote c₂ c₃ at₂ at₃ (encodePlain (alu MOV W64 src RCX))
       → Wrote c₃ c₄ at₃ at₄ (blanks (operated o w dst))
-      → Emits c c₄ t t′ at j at₄ j′ maker (mulDivModReg o slot w src dst)
-  pieces g s m r =
+      → Emits c c₄ t t′ at j at₄ j′ maker (mulDivModReg m o slot w src dst)
+  pieces g s v r =
       let none = empty (targetsOf unguarded) (computed-none o w (op (alu MOV W64 src RCX) ∷ []) dst (omega arith)) in
-      emits-then guarded unguarded g (plainly unguarded none (rw (blanks-append (saves dst) moved) (then s (then m r))))
+      emits-then guarded unguarded g (plainly unguarded none (rw (blanks-append (saves dst) moved) (then s (then v r))))
 
 -- what standard mode puts ahead, and the operation
 module _ (m : Mode) (o : MulOp) (w : Width) (s : Source) (slot : ℕ) (i : Insn) where
@@ -64,7 +64,7 @@ module _ (m : Mode) (o : MulOp) (w : Width) (s : Source) (slot : ℕ) (i : Insn)
   first = cleared m o w s i
 
   abbrev operation : Code
-  operation = mulDivModCode o w s slot i
+  operation = mulDivModCode m o w s slot i
 
   pub ahead-sizes : (size (slotCode m (MulDivMod o w s) slot i 0) ≡ size first + size operation) × (length (blanks first) ≡ size first)
   ahead-sizes = (size-append first operation, length-blanks first)

@@ -18,6 +18,7 @@ use ebpf::insn::Insn;
 use ebpf::kind::MulOp;
 use ebpf::kind::Source;
 use jit::Mode;
+use jit_recording::constant;
 use jit_recording::emission;
 use jit_recording::emission::Emission;
 use jit_recording::mode;
@@ -25,8 +26,6 @@ use jit_recording::register;
 use x86::GROUP3;
 use x86::GROUP3_DIV;
 use x86::GROUP3_MUL;
-use x86::GROUP11;
-use x86::GROUP11_MOV;
 use x86::JE;
 use x86::JNE;
 use x86::MOV;
@@ -133,36 +132,36 @@ fn emit_by_zero(code: &mut [u8], at: Position, op: MulOp, dst: u8) -> Position
 pub fn emit_muldivmod_imm(
     code: &mut [u8],
     at: Position,
+    mode: Mode,
     op: MulOp,
     width: Width,
     dst: u8,
     imm: u32,
 ) -> Position
-    requires { ⌜ FitAll code at (mulDivModImm op width dst imm) × (dst < 16) ⌝ }
-    ensures { λ x. ⌜ Wrote code at x (blanks (mulDivModImm op width dst imm)) ⌝ }
+    requires { ⌜ FitAll code at (mulDivModImm mode op width dst imm) × (dst < 16) ⌝ }
+    ensures { λ x. ⌜ Wrote code at x (blanks (mulDivModImm mode op width dst imm)) ⌝ }
 {
     if imm == 0 {
         return emit_by_zero(code, at, op, dst);
     }
     let saved = emit_saves(code, at, dst);
-    let loaded = alu::emit_alu_imm32(code, saved, Width::W64, GROUP11, GROUP11_MOV, RCX, imm);
+    let loaded = constant::emit_load_signed(code, saved, mode, RCX, imm);
     emit_operated(code, loaded, op, width, dst)
 }
 
 // The slot's number goes to RCX, and the divisor is tested.
-fn emit_tested(code: &mut [u8], at: Position, slot: Slot, width: Width, src: u8) -> Position
-    requires { ⌜ FitAll code at (tested (slot .number) width src) × ((src < 16) × (slot .number < 2 ^ 16)) ⌝ }
-    ensures { λ x. ⌜ Wrote code at x (blanks (tested (slot .number) width src)) ⌝ }
+fn emit_tested(
+    code: &mut [u8],
+    at: Position,
+    mode: Mode,
+    slot: Slot,
+    width: Width,
+    src: u8,
+) -> Position
+    requires { ⌜ FitAll code at (tested mode (slot .number) width src) × ((src < 16) × (slot .number < 2 ^ 16)) ⌝ }
+    ensures { λ x. ⌜ Wrote code at x (blanks (tested mode (slot .number) width src)) ⌝ }
 {
-    let numbered = alu::emit_alu_imm32(
-        code,
-        at,
-        Width::W64,
-        GROUP11,
-        GROUP11_MOV,
-        RCX,
-        slot.number as u32,
-    );
+    let numbered = constant::emit_load_signed(code, at, mode, RCX, slot.number as u32);
     alu::emit_alu(code, numbered, width, TEST, src, src)
 }
 
@@ -185,16 +184,17 @@ fn emit_div_guard(
     kinds: &mut [u32],
     makers: &mut [u32],
     e: Emission,
+    mode: Mode,
     slot: Slot,
     width: Width,
     src: u8,
     dst: u8,
 ) -> Emission
-    requires { ⌜ Room code fields targets kinds makers e (guard Div (slot .number) width src dst) ⌝ }
+    requires { ⌜ Room code fields targets kinds makers e (guard mode Div (slot .number) width src dst) ⌝ }
     requires { ⌜ (src < 16) × ((dst < 16) × (slot .number < 2 ^ 16)) ⌝ }
-    ensures { λ r. ⌜ Emits code fields targets kinds makers e r slot (guard Div (slot .number) width src dst) ⌝ }
+    ensures { λ r. ⌜ Emits code fields targets kinds makers e r slot (guard mode Div (slot .number) width src dst) ⌝ }
 {
-    let checked = emit_tested(code, e.at, slot, width, src);
+    let checked = emit_tested(code, e.at, mode, slot, width, src);
     let branched = jump::emit_jcc(code, checked, JNE, skip_of(slot, dst));
     let cleared = alu::emit_alu(code, branched, Width::W32, XOR, dst, dst);
     let next = jump::emit_jmp(code, cleared, 0);
@@ -219,16 +219,17 @@ fn emit_mod_guard(
     kinds: &mut [u32],
     makers: &mut [u32],
     e: Emission,
+    mode: Mode,
     slot: Slot,
     width: Width,
     src: u8,
     dst: u8,
 ) -> Emission
-    requires { ⌜ Room code fields targets kinds makers e (guard Mod (slot .number) width src dst) ⌝ }
+    requires { ⌜ Room code fields targets kinds makers e (guard mode Mod (slot .number) width src dst) ⌝ }
     requires { ⌜ (src < 16) × (slot .number < 2 ^ 16) ⌝ }
-    ensures { λ r. ⌜ Emits code fields targets kinds makers e r slot (guard Mod (slot .number) width src dst) ⌝ }
+    ensures { λ r. ⌜ Emits code fields targets kinds makers e r slot (guard mode Mod (slot .number) width src dst) ⌝ }
 {
-    let checked = emit_tested(code, e.at, slot, width, src);
+    let checked = emit_tested(code, e.at, mode, slot, width, src);
     let next = jump::emit_jcc(code, checked, JE, 0);
     emission::record_jump(
         fields,
@@ -251,15 +252,16 @@ fn emit_guard(
     kinds: &mut [u32],
     makers: &mut [u32],
     e: Emission,
+    mode: Mode,
     op: MulOp,
     slot: Slot,
     width: Width,
     src: u8,
     dst: u8,
 ) -> Emission
-    requires { ⌜ Room code fields targets kinds makers e (guard op (slot .number) width src dst) ⌝ }
+    requires { ⌜ Room code fields targets kinds makers e (guard mode op (slot .number) width src dst) ⌝ }
     requires { ⌜ (src < 16) × ((dst < 16) × (slot .number < 2 ^ 16)) ⌝ }
-    ensures { λ r. ⌜ Emits code fields targets kinds makers e r slot (guard op (slot .number) width src dst) ⌝ }
+    ensures { λ r. ⌜ Emits code fields targets kinds makers e r slot (guard mode op (slot .number) width src dst) ⌝ }
 {
     match op {
         MulOp::Mul => e,
@@ -270,6 +272,7 @@ fn emit_guard(
             kinds,
             makers,
             e,
+            mode,
             slot,
             width,
             src,
@@ -282,6 +285,7 @@ fn emit_guard(
             kinds,
             makers,
             e,
+            mode,
             slot,
             width,
             src,
@@ -297,15 +301,16 @@ pub fn emit_muldivmod_reg(
     kinds: &mut [u32],
     makers: &mut [u32],
     e: Emission,
+    mode: Mode,
     op: MulOp,
     slot: Slot,
     width: Width,
     src: u8,
     dst: u8,
 ) -> Emission
-    requires { ⌜ Room code fields targets kinds makers e (mulDivModReg op (slot .number) width src dst) ⌝ }
+    requires { ⌜ Room code fields targets kinds makers e (mulDivModReg mode op (slot .number) width src dst) ⌝ }
     requires { ⌜ (src < 16) × ((dst < 16) × (slot .number < 2 ^ 16)) ⌝ }
-    ensures { λ r. ⌜ Emits code fields targets kinds makers e r slot (mulDivModReg op (slot .number) width src dst) ⌝ }
+    ensures { λ r. ⌜ Emits code fields targets kinds makers e r slot (mulDivModReg mode op (slot .number) width src dst) ⌝ }
 {
     let guarded = emit_guard(
         code,
@@ -314,6 +319,7 @@ pub fn emit_muldivmod_reg(
         kinds,
         makers,
         e,
+        mode,
         op,
         slot,
         width,
@@ -337,19 +343,23 @@ fn emit_operation(
     kinds: &mut [u32],
     makers: &mut [u32],
     e: Emission,
+    mode: Mode,
     op: MulOp,
     width: Width,
     source: Source,
     slot: Slot,
     i: Insn,
 ) -> Emission
-    requires { ⌜ Room code fields targets kinds makers e (mulDivModCode op width source (slot .number) i) ⌝ }
+    requires { ⌜ Room code fields targets kinds makers e (mulDivModCode mode op width source (slot .number) i) ⌝ }
     requires { ⌜ (i .dst < 11) × ((i .src < 11) × (slot .number < 2 ^ 16)) ⌝ }
-    ensures { λ r. ⌜ Emits code fields targets kinds makers e r slot (mulDivModCode op width source (slot .number) i) ⌝ }
+    ensures { λ r. ⌜ Emits code fields targets kinds makers e r slot (mulDivModCode mode op width source (slot .number) i) ⌝ }
 {
     let dst = register::map_register(i.dst);
     match source {
-        Source::Imm => emission::onward(e, emit_muldivmod_imm(code, e.at, op, width, dst, i.imm)),
+        Source::Imm => emission::onward(
+            e,
+            emit_muldivmod_imm(code, e.at, mode, op, width, dst, i.imm),
+        ),
         Source::Reg => emit_muldivmod_reg(
             code,
             fields,
@@ -357,6 +367,7 @@ fn emit_operation(
             kinds,
             makers,
             e,
+            mode,
             op,
             slot,
             width,
@@ -415,6 +426,7 @@ pub fn emit_muldivmod(
             at: ready,
             jumps: e.jumps,
         },
+        mode,
         op,
         width,
         source,

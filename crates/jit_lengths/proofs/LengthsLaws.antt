@@ -1,17 +1,18 @@
 -- Lengths of instructions, put together from those of their parts.
 use mathlib.Core.Path.{_≡_, refl}
-use mathlib.Core.Bool.{Bool, true, false}
+use mathlib.Core.Bool.{Bool, true, false, _&&_}
 use mathlib.Core.List.{List, [], _∷_, _++_}
 use Prim.Native.Nat.{ℕ, _+_, _%_, _^_, _≤_, _<_}
 use native.Mathlib.Omega.{arith}
 use lib.ListN.{length, length-append}
-use borrow.Author.Tests.{eq-eqb, ne-eqb}
+use lib.Dec.{ltb}
+use borrow.Author.Tests.{eq-eqb, ne-eqb, lt-ltb}
 use Rattle.base.specs.Pick.{pick}
 use Rattle.base.specs.Bytes.{le32}
 use Rattle.base.specs.declared.Width.{Width}
 use Rattle.base.specs.declared.Width.the-variants.{W32, W64}
 use Rattle.base.specs.declared.Size.{Size}
-use Rattle.x86.specs.Instr.{MOV, aluImm, load, store, storeImm}
+use Rattle.x86.specs.Instr.{MOV, aluImm, movImm, load, store, storeImm}
 use Rattle.x86.specs.Encode.{wide, aluOpcode, aluImmOpcode, aluExtension, shiftExtension, rexBits, rex, modrm, bare, short, memory, wideSize}
 use Rattle.x86.specs.Encode.{loadOpcode, prefix66, storeRex, storeOpcode, storeImmOpcode, immBytes, encodePlain}
 use Rattle.base.specs.Bytes.{le64}
@@ -29,11 +30,12 @@ use Rattle.x86.specs.Instr as x86
 use Rattle.x86.specs.Instr.{alu, op, TEST, XOR}
 use Rattle.x86.specs.Code.{size}
 use Rattle.x86.proofs.CodeLaws.{size-append}
-use Rattle.jit.specs.MulDivMod.{Code, saves, restores, fromRax, operate, operated, computed, byZero, guard}
-use Rattle.jit.specs.Slots.{regOf, targetOf, loadImm, aluOf, shiftOf, testOf, aluCode, shiftCode, movCode, mulDivModCode, jumpCode}
+use Rattle.jit.specs.Constants.{loadImm, loaded}
+use Rattle.jit.specs.MulDivMod.{Code, saves, restores, fromRax, operate, operated, computed, byZero, tested, guard}
+use Rattle.jit.specs.Slots.{regOf, targetOf, aluOf, shiftOf, testOf, aluCode, shiftCode, movCode, mulDivModCode, jumpCode}
 use Rattle.jit.specs.Slots.{lowerHalf, cleared, copyWidth, truncated, swap, helperCall, localCall, callCode, slotCode}
 use Rattle.jit.specs.declared.Mode.{Mode}
-use Rattle.jit.proofs.Constants.{load-short, load-long}
+use Rattle.jit.proofs.Constants.{load-short, load-long, loaded-low, loaded-high, loaded-positive, loaded-negative, loaded-half}
 use Rattle.jit_lengths.specs.Lengths.{Rexed, kept, operands}
 
 -- with REX.W the prefix always is there
@@ -77,12 +79,38 @@ store-imm-length z b x i h g e f =
     let inner = length-append (rex (wideSize z) 0 b) (storeImmOpcode z ∷ tail) in
     omega (arith, h, g, e, f, length-append (prefix66 z) body, inner, length-append (memory 0 b x) (immBytes z i))
 
--- a constant
-pub load-imm-short : (d v : ℕ) → (v + 2 ^ 31) % 2 ^ 64 < 2 ^ 32 → 7 ≡ length (encodePlain (loadImm d v))
-load-imm-short d v h = rw (← load-short d v h) (rexed 1 0 d (0xc7 ∷ modrm 3 0 d ∷ le32 (v % 2 ^ 32)) (rex-wide 0 d) refl)
+-- a constant: the two forms of the Rust, and the shorter one
+extended : (d x : ℕ) → 7 ≡ length (encodePlain (aluImm MOV W64 d x))
+extended d x = rexed 1 0 d (0xc7 ∷ modrm 3 0 d ∷ le32 x) (rex-wide 0 d) refl
 
-pub load-imm-long : (d v : ℕ) → 2 ^ 32 ≤ (v + 2 ^ 31) % 2 ^ 64 → 10 ≡ length (encodePlain (loadImm d v))
-load-imm-long d v h = rw (← load-long d v h) (rexed 1 0 d ((0xb8 + d % 8) ∷ le64 v) (rex-wide 0 d) refl)
+whole : (d v : ℕ) → 10 ≡ length (encodePlain (movImm W64 d v))
+whole d v = rexed 1 0 d ((0xb8 + d % 8) ∷ le64 v) (rex-wide 0 d) refl
+
+pub low-size : (d v : ℕ) {k : ℕ} → k ≡ length (rex 0 0 d) → k + 5 ≡ length (encodePlain (movImm W32 d v))
+low-size d v h = rexed 0 0 d ((0xb8 + d % 8) ∷ le32 v) h refl
+
+-- which of them a constant of 64 bits has, by the tests of its range
+module _ (m : Mode) (d v : ℕ) where
+  pub load-imm-short : {k : ℕ} → (v + 2 ^ 31) % 2 ^ 64 < 2 ^ 32 → k ≡ length (encodePlain (loaded m (aluImm MOV W64 d (v % 2 ^ 32))))
+      → k ≡ length (encodePlain (loaded m (loadImm d v)))
+  load-imm-short e h = rw (← load-short d v e) h
+
+  module _ (e : 2 ^ 32 ≤ (v + 2 ^ 31) % 2 ^ 64) where
+    pub load-imm-low : {k : ℕ} → (m .compact && ltb v (2 ^ 32)) ≡ true → k ≡ length (encodePlain (movImm W32 d v))
+        → k ≡ length (encodePlain (loaded m (loadImm d v)))
+    load-imm-low f h = rw (← load-long d v e, ← loaded-low m d v f) h
+
+    pub load-imm-long : (m .compact && ltb v (2 ^ 32)) ≡ false → 10 ≡ length (encodePlain (loaded m (loadImm d v)))
+    load-imm-long f = rw (← load-long d v e, ← loaded-high m d v f) (whole d v)
+
+-- .. and an immediate, which is extended by its sign
+module _ (m : Mode) (d x : ℕ) where
+  pub load-positive : {k : ℕ} → (m .compact && ltb x (2 ^ 31)) ≡ true → k ≡ length (encodePlain (movImm W32 d x))
+      → k ≡ length (encodePlain (loaded m (aluImm MOV W64 d x)))
+  load-positive e h = rw (← loaded-positive m d x e) h
+
+  pub load-negative : (m .compact && ltb x (2 ^ 31)) ≡ false → 7 ≡ length (encodePlain (loaded m (aluImm MOV W64 d x)))
+  load-negative e = rw (← loaded-negative m d x e) (extended d x)
 
 pub operands-imm : (o : x86.Alu) (w : Width) (i : Insn) {k : ℕ} → Rexed w 0 (regOf (i .dst)) 6 k → k ≡ length (encodePlain (operands o w Imm i))
 operands-imm o w i h = h (aluImmOpcode o ∷ modrm 3 (aluExtension o) (regOf (i .dst)) ∷ le32 (i .imm)) refl
@@ -109,9 +137,9 @@ ind-size m z slot i v h =
     let index = rexed 1 src R11 (0x01 ∷ modrm 3 src R11 ∷ []) (rex-wide src R11) refl in
     omega (arith, h, base, index)
 
-helper-size : (v : ℕ) {k : ℕ} → k ≡ length (encodePlain (loadImm RAX v)) → 5 + k ≡ size (helperCall v)
+helper-size : (m : Mode) (v : ℕ) {k : ℕ} → k ≡ length (encodePlain (loaded m (loadImm RAX v))) → 5 + k ≡ size (helperCall m v)
 unfolding rex
-helper-size v h = omega (arith, h)
+helper-size m v h = omega (arith, h)
 
 local-size : (t : ℕ) → 19 ≡ size (localCall t)
 unfolding rex
@@ -119,9 +147,6 @@ local-size t = refl
 
 moved : (r d : ℕ) → 3 ≡ length (encodePlain (alu MOV W64 r d))
 moved r d = rexed 1 r d (0x89 ∷ modrm 3 r d ∷ []) (rex-wide r d) refl
-
-numbered : (slot : ℕ) → 7 ≡ length (encodePlain (aluImm MOV W64 RCX slot))
-numbered slot = rexed 1 0 RCX (0xc7 ∷ modrm 3 0 RCX ∷ le32 slot) (rex-wide 0 RCX) refl
 
 pub kept-rax : (b : Bool) (d : ℕ) → d ≡ 0 → pick b 2 5 ≡ kept b d
 unfolding rex
@@ -172,27 +197,41 @@ zero-mul d h = omega (arith, xored d h)
 pub zero-div : (d : ℕ) {k : ℕ} → Rexed W32 d d 2 k → k ≡ size (byZero Div d)
 zero-div d h = omega (arith, xored d h)
 
-pub guard-div : (slot : ℕ) (w : Width) (s d : ℕ) {k m : ℕ} → Rexed w s s 2 k → Rexed W32 d d 2 m → 18 + k + m ≡ size (guard Div slot w s d)
-guard-div slot w s d h g = omega (arith, tested-is w s h, xored d g, numbered slot)
+-- the slot's number, and the test of the divisor
+pub tested-low : (m : Mode) (slot : ℕ) (w : Width) (s : ℕ) {k : ℕ} → m .compact ≡ true → slot < 2 ^ 16 → Rexed w s s 2 k
+    → 5 + k ≡ size (tested m slot w s)
+unfolding rex
+tested-low m slot w s e below h =
+    let low : slot < 2 ^ 31 = omega (arith, below) in
+    let number = load-positive m RCX slot (rw (e, lt-ltb _ _ low) refl) (low-size RCX slot refl) in
+    omega (arith, tested-is w s h, number)
 
-pub guard-mod : (slot : ℕ) (w : Width) (s d : ℕ) {k : ℕ} → Rexed w s s 2 k → 13 + k ≡ size (guard Mod slot w s d)
-guard-mod slot w s d h = omega (arith, tested-is w s h, numbered slot)
+pub tested-as-ever : (m : Mode) (slot : ℕ) (w : Width) (s : ℕ) {k : ℕ} → m .compact ≡ false → Rexed w s s 2 k → 7 + k ≡ size (tested m slot w s)
+tested-as-ever m slot w s e h = omega (arith, tested-is w s h, load-negative m RCX slot (rw e refl))
 
-pub imm-zero : (o : MulOp) (w : Width) (slot : ℕ) (i : Insn) {k : ℕ} → i .imm ≡ 0
-    → k ≡ size (byZero o (regOf (i .dst))) → k ≡ size (mulDivModCode o w Imm slot i)
-imm-zero o w slot i e h = rw (eq-eqb _ _ e) h
+pub guard-div : (m : Mode) (slot : ℕ) (w : Width) (s d : ℕ) {j k : ℕ} → j ≡ size (tested m slot w s) → Rexed W32 d d 2 k
+    → 11 + j + k ≡ size (guard m Div slot w s d)
+guard-div m slot w s d h g = omega (arith, h, xored d g)
 
-pub imm-some : (o : MulOp) (w : Width) (slot : ℕ) (i : Insn) (k : ℕ) → ¬ (i .imm ≡ 0)
-    → ((operand : Code) → k + size operand ≡ size (computed o w operand (regOf (i .dst)))) → k + 7 ≡ size (mulDivModCode o w Imm slot i)
-imm-some o w slot i k e h = rw (ne-eqb _ _ e) (omega (arith, h (op (aluImm MOV W64 RCX (i .imm)) ∷ []), numbered (i .imm)))
+pub guard-mod : (m : Mode) (slot : ℕ) (w : Width) (s d : ℕ) {j : ℕ} → j ≡ size (tested m slot w s) → 6 + j ≡ size (guard m Mod slot w s d)
+guard-mod m slot w s d h = omega (arith, h)
 
-pub reg-size : (o : MulOp) (w : Width) (slot : ℕ) (i : Insn) (g k : ℕ) → g ≡ size (guard o slot w (regOf (i .src)) (regOf (i .dst)))
-    → ((operand : Code) → k + size operand ≡ size (computed o w operand (regOf (i .dst)))) → g + (k + 3) ≡ size (mulDivModCode o w Reg slot i)
-reg-size o w slot i g k e h =
+pub imm-zero : (m : Mode) (o : MulOp) (w : Width) (slot : ℕ) (i : Insn) {k : ℕ} → i .imm ≡ 0
+    → k ≡ size (byZero o (regOf (i .dst))) → k ≡ size (mulDivModCode m o w Imm slot i)
+imm-zero m o w slot i e h = rw (eq-eqb _ _ e) h
+
+pub imm-some : (m : Mode) (o : MulOp) (w : Width) (slot : ℕ) (i : Insn) (k j : ℕ) → ¬ (i .imm ≡ 0)
+    → ((operand : Code) → k + size operand ≡ size (computed o w operand (regOf (i .dst))))
+    → j ≡ length (encodePlain (loaded m (aluImm MOV W64 RCX (i .imm)))) → k + j ≡ size (mulDivModCode m o w Imm slot i)
+imm-some m o w slot i k j e h g = rw (ne-eqb _ _ e) (omega (arith, h (op (loaded m (aluImm MOV W64 RCX (i .imm))) ∷ []), g))
+
+pub reg-size : (m : Mode) (o : MulOp) (w : Width) (slot : ℕ) (i : Insn) (g k : ℕ) → g ≡ size (guard m o slot w (regOf (i .src)) (regOf (i .dst)))
+    → ((operand : Code) → k + size operand ≡ size (computed o w operand (regOf (i .dst)))) → g + (k + 3) ≡ size (mulDivModCode m o w Reg slot i)
+reg-size m o w slot i g k e h =
     let s = regOf (i .src) in
     let d = regOf (i .dst) in
     let operand = op (alu MOV W64 s RCX) ∷ [] in
-    omega (arith, e, h operand, moved s RCX, size-append (guard o slot w s d) (computed o w operand d))
+    omega (arith, e, h operand, moved s RCX, size-append (guard m o slot w s d) (computed o w operand d))
 
 -- shifts, moves, byte swaps, calls
 pub shift-imm : (o : ShiftOp) (w : Width) (i : Insn) {k : ℕ} → Rexed w 0 (regOf (i .dst)) 3 k → k ≡ size (shiftCode o w Imm i)
@@ -201,8 +240,13 @@ shift-imm o w i h = omega (arith, h (0xc1 ∷ modrm 3 (shiftExtension (shiftOf o
 pub shift-reg : (o : ShiftOp) (w : Width) (i : Insn) {k : ℕ} → Rexed w 0 (regOf (i .dst)) 2 k → 3 + k ≡ size (shiftCode o w Reg i)
 shift-reg o w i h = omega (arith, h (0xd3 ∷ modrm 3 (shiftExtension (shiftOf o)) (regOf (i .dst)) ∷ []) refl, moved (regOf (i .src)) RCX)
 
-pub mov-imm : (m : Mode) (w : Width) (i : Insn) {k : ℕ} → Rexed w 0 (regOf (i .dst)) 6 k → k ≡ size (movCode m w Imm i)
-mov-imm m w i h = omega (arith, operands-imm MOV w i h)
+-- MOV32_IMM has its form in every mode
+pub mov-imm-half : (m : Mode) (i : Insn) {k : ℕ} → Rexed W32 0 (regOf (i .dst)) 6 k → k ≡ size (movCode m W32 Imm i)
+mov-imm-half m i h = rw (← loaded-half m (regOf (i .dst)) (i .imm)) (omega (arith, operands-imm MOV W32 i h))
+
+pub mov-imm-whole : (m : Mode) (i : Insn) {k : ℕ} → k ≡ length (encodePlain (loaded m (aluImm MOV W64 (regOf (i .dst)) (i .imm))))
+    → k ≡ size (movCode m W64 Imm i)
+mov-imm-whole m i h = omega (arith, h)
 
 pub mov-half : (m : Mode) (w : Width) (i : Insn) {k : ℕ} → copyWidth m w ≡ W32 → Rexed W32 (regOf (i .src)) (regOf (i .dst)) 2 k
     → k ≡ size (movCode m w Reg i)
@@ -238,11 +282,12 @@ pub cut-none : (d bits : ℕ) → ¬ (bits ≡ 16) → ¬ (bits ≡ 32) → 0 �
 cut-none d bits e f = rw (ne-eqb _ _ e, ne-eqb _ _ f)
 
 pub ahead-size : (m : Mode) (o : MulOp) (w : Width) (s : Source) (slot : ℕ) (i : Insn) (v : ℕ) {j k : ℕ} → j ≡ size (cleared m o w s i)
-    → k ≡ size (mulDivModCode o w s slot i) → j + k ≡ size (slotCode m (MulDivMod o w s) slot i v)
-ahead-size m o w s slot i v h g = omega (arith, h, g, size-append (cleared m o w s i) (mulDivModCode o w s slot i))
+    → k ≡ size (mulDivModCode m o w s slot i) → j + k ≡ size (slotCode m (MulDivMod o w s) slot i v)
+ahead-size m o w s slot i v h g = omega (arith, h, g, size-append (cleared m o w s i) (mulDivModCode m o w s slot i))
 
-pub call-helper : (slot : ℕ) (i : Insn) (v : ℕ) {k : ℕ} → i .src ≡ 0 → k ≡ length (encodePlain (loadImm RAX v)) → 5 + k ≡ size (callCode slot i v)
-call-helper slot i v e h = rw (eq-eqb _ _ e) (helper-size v h)
+pub call-helper : (m : Mode) (slot : ℕ) (i : Insn) (v : ℕ) {k : ℕ} → i .src ≡ 0 → k ≡ length (encodePlain (loaded m (loadImm RAX v)))
+    → 5 + k ≡ size (callCode m slot i v)
+call-helper m slot i v e h = rw (eq-eqb _ _ e) (helper-size m v h)
 
-pub call-local : (slot : ℕ) (i : Insn) (v : ℕ) → ¬ (i .src ≡ 0) → 19 ≡ size (callCode slot i v)
-call-local slot i v e = rw (ne-eqb _ _ e) (local-size (targetOf slot (i .imm)))
+pub call-local : (m : Mode) (slot : ℕ) (i : Insn) (v : ℕ) → ¬ (i .src ≡ 0) → 19 ≡ size (callCode m slot i v)
+call-local m slot i v e = rw (ne-eqb _ _ e) (local-size (targetOf slot (i .imm)))

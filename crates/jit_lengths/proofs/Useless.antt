@@ -2,7 +2,7 @@
 -- source, of an answer x.
 use mathlib.Core.Path.{_≡_, refl}
 use mathlib.Core.List.{[], _∷_}
-use Prim.Native.Nat.{ℕ, _≤_}
+use Prim.Native.Nat.{ℕ, _≤_, _<_, _^_}
 use native.Mathlib.Omega.{arith}
 use lib.ListN.{length}
 use Rattle.base.specs.declared.Width.{Width}
@@ -12,19 +12,20 @@ use Rattle.base.specs.declared.Size.the-variants.{S8, S16, S64}
 use Rattle.ebpf.specs.declared.insn.Insn.{Insn}
 use Rattle.ebpf.specs.declared.kind.Source.{Source}
 use Rattle.ebpf.specs.declared.kind.Source.the-variants.{Imm, Reg}
-use Rattle.ebpf.specs.declared.kind.MulOp.the-variants.{Div, Mod}
+use Rattle.ebpf.specs.declared.kind.MulOp.the-variants.{Mul, Div, Mod}
 use Rattle.ebpf.specs.declared.kind.Kind.the-variants.{Exit, Mov, MulDivMod}
 use Rattle.ebpf.specs.declared.kind.Lookup.{Lookup}
 use Rattle.ebpf.specs.declared.kind.Lookup.the-variants.{Known}
-use Rattle.x86.specs.Registers.{RAX, RSI, RDI, R8, R13}
+use Rattle.x86.specs.Registers.{RAX, RCX, RSI, RDI, R8, R13}
 use Rattle.x86.specs.Instr as x86
-use Rattle.x86.specs.Instr.{load, store, storeImm}
+use Rattle.x86.specs.Instr.{aluImm, load, store, storeImm, MOV}
 use Rattle.x86.specs.Encode.{rex, memory, bare, short, encodePlain}
 use Rattle.x86.specs.Code.{size}
 use Rattle.jit.specs.declared.Mode.{Mode}
+use Rattle.jit.specs.Constants.{loadImm, loaded}
 use Rattle.jit.specs.MulDivMod.{when}
-use Rattle.jit.specs.Modes.{rust, standard}
-use Rattle.jit.specs.Slots.{regOf, loadImm, truncated, swap, callCode}
+use Rattle.jit.specs.Modes.{rust, standard, compact}
+use Rattle.jit.specs.Slots.{regOf, truncated, swap, callCode}
 use Rattle.jit_lengths.specs.Lengths.{Rexed, operands, SizedBy}
 
 abbrev insn : (dst src off imm : ℕ) → Insn
@@ -49,8 +50,11 @@ StoreLength z src base disp x = (x ≡ length (encodePlain (store z src base dis
 abbrev StoreImmLength : Size → (base disp x : ℕ) → Type 0
 StoreImmLength z base disp x = ((i : ℕ) → x ≡ length (encodePlain (storeImm z base disp i))) × (x ≤ 12)
 
-abbrev LoadImmLength : (value x : ℕ) → Type 0
-LoadImmLength value x = ((d : ℕ) → x ≡ length (encodePlain (loadImm d value))) × (x ≤ 10)
+abbrev LoadImmLength : Mode → (dst value x : ℕ) → Type 0
+LoadImmLength m dst value x = (x ≡ length (encodePlain (loaded m (loadImm dst value)))) × (x ≤ 10)
+
+abbrev LoadSignedLength : Mode → (dst imm x : ℕ) → Type 0
+LoadSignedLength m dst imm x = (x ≡ length (encodePlain (loaded m (aluImm MOV W64 dst imm)))) × (x ≤ 7)
 
 abbrev OperandsLength : Width → Source → Insn → (x : ℕ) → Type 0
 OperandsLength w s i x = ((o : x86.Alu) → x ≡ length (encodePlain (operands o w s i))) × (x ≤ 17)
@@ -58,8 +62,8 @@ OperandsLength w s i x = ((o : x86.Alu) → x ≡ length (encodePlain (operands 
 abbrev SwapLength : (dst bits x : ℕ) → Type 0
 SwapLength dst bits x = (x ≡ size (swap dst bits)) × (x ≤ 40)
 
-abbrev CallLength : Insn → (value x : ℕ) → Type 0
-CallLength i value x = ((slot : ℕ) → x ≡ size (callCode slot i value)) × (x ≤ 19)
+abbrev CallLength : Mode → Insn → (value x : ℕ) → Type 0
+CallLength m i value x = ((slot : ℕ) → x ≡ size (callCode m slot i value)) × (x ≤ 19)
 
 abbrev SlotLength : Mode → Lookup → Insn → (x : ℕ) → Type 0
 SlotLength m l i x = SizedBy m l i x × (x ≤ 107)
@@ -98,9 +102,29 @@ unfolding rex memory bare short
 store-imm-lengths = (λ h. omega (arith, h .0 0), λ h. omega (arith, h .0 0))
 
 -- 2147483648 in four bytes; -1 in eight.
-pub load-imm-lengths : (LoadImmLength 0x80000000 7 → ⊥) × (LoadImmLength 0xffffffffffffffff 10 → ⊥)
+pub load-imm-lengths : (LoadImmLength rust RAX 0x80000000 7 → ⊥) × (LoadImmLength rust RAX 0xffffffffffffffff 10 → ⊥)
 unfolding rex loadImm
-load-imm-lengths = (λ h. omega (arith, h .0 0), λ h. omega (arith, h .0 0))
+load-imm-lengths = (λ h. omega (arith, h .0), λ h. omega (arith, h .0))
+
+-- Compact: 2 ^ 32 in four bytes; 2 ^ 32 - 1 in eight; -1 without REX.W; R13 without its REX. With the flag off: 5 without REX.W.
+pub compact-load-imm-lengths :
+    (LoadImmLength compact RAX 0x100000000 5 → ⊥)
+    × ((LoadImmLength compact RAX 0xffffffff 10 → ⊥)
+    × ((LoadImmLength compact RAX 0xffffffffffffffff 5 → ⊥)
+    × ((LoadImmLength compact R13 5 5 → ⊥)
+    × (LoadImmLength rust RAX 5 5 → ⊥))))
+unfolding rex loadImm
+compact-load-imm-lengths =
+    (λ h. omega (arith, h .0), (λ h. omega (arith, h .0), (λ h. omega (arith, h .0), (λ h. omega (arith, h .0), λ h. omega (arith, h .0)))))
+
+-- An immediate, compact: -1 without REX.W; 2147483647 with it; R13 without its REX. With the flag off: 5 without REX.W.
+pub load-signed-lengths :
+    (LoadSignedLength compact RCX 0xffffffff 5 → ⊥)
+    × ((LoadSignedLength compact RCX 0x7fffffff 7 → ⊥)
+    × ((LoadSignedLength compact R13 5 5 → ⊥)
+    × (LoadSignedLength rust RCX 5 5 → ⊥)))
+unfolding rex
+load-signed-lengths = (λ h. omega (arith, h .0), (λ h. omega (arith, h .0), (λ h. omega (arith, h .0), λ h. omega (arith, h .0))))
 
 -- A 64-bit addition without its REX; an immediate of one byte.
 pub operands-lengths : (OperandsLength W64 Reg (insn 1 2 0 0) 2 → ⊥) × (OperandsLength W64 Imm (insn 1 0 0 5) 4 → ⊥)
@@ -112,10 +136,17 @@ pub swap-lengths : (SwapLength RDI 16 9 → ⊥) × (SwapLength RDI 64 2 → ⊥
 unfolding rex
 swap-lengths = (λ h. omega (arith, h .0), λ h. omega (arith, h .0))
 
--- A local call that saves three registers; a helper's address in four bytes where it takes eight.
-pub call-lengths : (CallLength (insn 0 1 0 3) 0 15 → ⊥) × (CallLength (insn 0 0 0 3) 0x7f0000000000 12 → ⊥)
+-- A local call that saves three registers; a helper's address in four bytes where it takes eight; compact, 2 ^ 32 - 1 in eight.
+pub call-lengths :
+    (CallLength rust (insn 0 1 0 3) 0 15 → ⊥)
+    × ((CallLength rust (insn 0 0 0 3) 0x7f0000000000 12 → ⊥)
+    × (CallLength compact (insn 0 0 0 3) 0xffffffff 15 → ⊥))
 unfolding rex loadImm
-call-lengths = (λ h. omega (arith, h .0 0), λ h. omega (arith, h .0 0))
+call-lengths = (λ h. omega (arith, h .0 0), (λ h. omega (arith, h .0 0), λ h. omega (arith, h .0 0)))
+
+-- a slot that can be anywhere can be the first one
+first : 0 < 2 ^ 16
+first = omega arith
 
 -- DIV by a register without the jump behind the cleared dst; EXIT as a jump; MOD32_IMM by 0 as an instruction; a copy of 32 bits.
 pub slot-lengths :
@@ -124,7 +155,7 @@ pub slot-lengths :
     × ((SlotLength rust (Known (MulDivMod Mod W32 Imm)) (insn 1 0 0 0) 2 → ⊥)
     × (SlotLength rust (Known (Mov W32 Reg)) (insn 1 2 0 0) 2 → ⊥)))
 unfolding rex regOf
-slot-lengths = (λ h. omega (arith, h .0 0 0), (λ h. omega (arith, h .0 0 0), (λ h. omega (arith, h .0 0 0), λ h. omega (arith, h .0 0 0))))
+slot-lengths = (λ h. omega (arith, h .0 0 0 first), (λ h. omega (arith, h .0 0 0 first), (λ h. omega (arith, h .0 0 0 first), λ h. omega (arith, h .0 0 0 first))))
 
 -- Standard mode: MOD32 by a register and by 0 without the cleared half, and MOV32_REG as a copy of 64 bits.
 pub standard-lengths :
@@ -132,7 +163,19 @@ pub standard-lengths :
     × ((SlotLength standard (Known (MulDivMod Mod W32 Imm)) (insn 1 0 0 0) 0 → ⊥)
     × (SlotLength standard (Known (Mov W32 Reg)) (insn 1 2 0 0) 3 → ⊥))
 unfolding rex regOf
-standard-lengths = (λ h. omega (arith, h .0 0 0), (λ h. omega (arith, h .0 0 0), λ h. omega (arith, h .0 0 0)))
+standard-lengths = (λ h. omega (arith, h .0 0 0 first), (λ h. omega (arith, h .0 0 0 first), λ h. omega (arith, h .0 0 0 first)))
+
+-- Compact: MOV64_IMM of -1 without REX.W, and to R13 without its REX; MOV32_IMM in the shorter form; MUL by -1 without REX.W; MOD by a
+-- register with the slot's number in seven bytes.
+pub compact-lengths :
+    (SlotLength compact (Known (Mov W64 Imm)) (insn 1 0 0 0xffffffff) 5 → ⊥)
+    × ((SlotLength compact (Known (Mov W64 Imm)) (insn 7 0 0 5) 5 → ⊥)
+    × ((SlotLength compact (Known (Mov W32 Imm)) (insn 1 0 0 5) 5 → ⊥)
+    × ((SlotLength compact (Known (MulDivMod Mul W64 Imm)) (insn 1 0 0 0xffffffff) 18 → ⊥)
+    × (SlotLength compact (Known (MulDivMod Mod W64 Reg)) (insn 1 2 0 0) 34 → ⊥))))
+unfolding rex regOf
+compact-lengths =
+    (λ h. omega (arith, h .0 0 0 first), (λ h. omega (arith, h .0 0 0 first), (λ h. omega (arith, h .0 0 0 first), (λ h. omega (arith, h .0 0 0 first), λ h. omega (arith, h .0 0 0 first)))))
 
 -- LE as an instruction with the mode off; LE 16 without one in standard mode, and LE 64 with one.
 pub le-lengths : (LeLength rust RDI 16 6 → ⊥) × ((LeLength standard RDI 16 0 → ⊥) × (LeLength standard RDI 64 2 → ⊥))

@@ -2,7 +2,7 @@
 use mathlib.Core.Path.{_≡_}
 use mathlib.Core.Bool.{Bool, not}
 use mathlib.Core.List.{List, _++_}
-use Prim.Native.Nat.{ℕ, _+_}
+use Prim.Native.Nat.{ℕ, _+_, _^_, _<_}
 use lib.ListN.{length}
 use Rattle.base.specs.declared.Width.{Width}
 use Rattle.x86.specs.Instr.{aluImm}
@@ -35,9 +35,9 @@ operands o w Reg i = alu o w (regOf (i .src)) (regOf (i .dst))
 abbrev pub kept : Bool → (dst : ℕ) → ℕ
 kept fromRax dst = size (saves dst) + size (restored dst RDX (not fromRax) ++ restored dst RAX fromRax)
 
--- r is the length of the code of such a slot, wherever it stands
+-- r is the length of the code of such a slot, wherever in a program it stands
 abbrev pub Sized : Mode → Kind → Insn → (r : ℕ) → Type 0
-Sized m k i r = (slot value : ℕ) → r ≡ size (slotCode m k slot i value)
+Sized m k i r = (slot value : ℕ) → slot < 2 ^ 16 → r ≡ size (slotCode m k slot i value)
 
 -- .. in every mode
 abbrev pub AlwaysSized : Kind → Insn → (r : ℕ) → Type 0

@@ -3,11 +3,14 @@ ghost use mathlib.Core.Path.{_≡_};
 ghost use Prim.Native.Nat.{ℕ, _+_, _≤_, _<_};
 ghost use lib.ListN.{length};
 ghost use Rattle.x86.specs.Encode.{wideSize, rexRule, rex, memory, loadOpcode, prefix66, storeRex, immBytes, encodePlain};
-ghost use Rattle.x86.specs.Instr.{load, store, storeImm};
-ghost use Rattle.jit.specs.Slots.{loadImm};
+ghost use Rattle.x86.specs.Instr.{aluImm, movImm, load, store, storeImm, MOV};
+ghost use Rattle.base.specs.declared.Width.the-variants.{W32, W64};
+ghost use Rattle.jit.specs.Constants.{loadImm, loaded};
 ghost use Rattle.jit_lengths.specs.Lengths.{Rexed};
 use base::Size;
 use base::Width;
+use jit::Mode;
+use jit_recording::mode;
 use x86::FORCED;
 
 // The one rule for the REX prefix: it is left out where none of its bits is set, unless it is forced.
@@ -133,12 +136,35 @@ pub fn store_imm_length(size: Size, base: u8, disp: u32) -> usize
     prefix_length(size) + (rex + (1 + (memory_length(base, disp) + imm_length(size))))
 }
 
-// A constant in the signed 32-bit range takes four bytes, any other eight.
-pub fn load_imm_length(value: u64) -> usize
-    ensures { λ x. ⌜ ((d : ℕ) → x ≡ length (encodePlain (loadImm d value))) × (x ≤ 10) ⌝ }
+// B8+r with four bytes.
+fn low_length(dst: u8) -> usize
+    requires { ⌜ dst < 16 ⌝ }
+    ensures { λ x. ⌜ ((imm : ℕ) → x ≡ length (encodePlain (movImm W32 dst imm))) × (x ≤ 6) ⌝ }
+{
+    rex_length(0, 0, dst) + 5
+}
+
+// An immediate, which is extended by its sign: four bytes; compact, without REX.W where it is not negative.
+pub fn load_signed_length(mode: Mode, dst: u8, imm: u32) -> usize
+    requires { ⌜ dst < 16 ⌝ }
+    ensures { λ x. ⌜ (x ≡ length (encodePlain (loaded mode (aluImm MOV W64 dst imm)))) × (x ≤ 7) ⌝ }
+{
+    if mode::is_low_imm(mode, imm) {
+        return low_length(dst);
+    }
+    7
+}
+
+// A constant of 64 bits, in the signed 32-bit range such an immediate; any other takes eight bytes, or compact, below 2 ^ 32, four.
+pub fn load_imm_length(mode: Mode, dst: u8, value: u64) -> usize
+    requires { ⌜ dst < 16 ⌝ }
+    ensures { λ x. ⌜ (x ≡ length (encodePlain (loaded mode (loadImm dst value)))) × (x ≤ 10) ⌝ }
 {
     if std::num::wrapping_add_u64(value, 0x8000_0000) < 0x1_0000_0000 {
-        return 7;
+        return load_signed_length(mode, dst, (value % 0x1_0000_0000) as u32);
+    }
+    if mode::is_low(mode, value) {
+        return low_length(dst);
     }
     10
 }

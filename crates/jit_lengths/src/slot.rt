@@ -1,14 +1,14 @@
 // The length of each kind of slot: the sums that `emit_slot` would come to, found by the opcode's entry in the table as it does.
 ghost use mathlib.Core.Path.{_≡_};
-ghost use Prim.Native.Nat.{ℕ, _+_, _≤_, _<_};
+ghost use Prim.Native.Nat.{ℕ, _+_, _≤_, _<_, _^_};
 ghost use lib.ListN.{length};
 ghost use Rattle.x86.specs.Code.{size};
 ghost use Rattle.x86.specs.Encode.{encodePlain};
 ghost use Rattle.x86.specs.Instr as x86;
-ghost use Rattle.jit.specs.MulDivMod.{Code, when, byZero, guard, computed};
-ghost use Rattle.jit.specs.Slots.{shiftCode, movCode, mulDivModCode, lowerHalf, cleared, truncated, swap, callCode, slotCode};
+ghost use Rattle.jit.specs.MulDivMod.{Code, when, byZero, tested, guard, computed};
+ghost use Rattle.jit.specs.Slots.{shiftCode, movCode, mulDivModCode, lowerHalf, cleared, truncated, swap, callCode};
 ghost use Rattle.jit_walk.specs.Lent.{SlotRead, insnOf};
-ghost use Rattle.jit_lengths.specs.Lengths.{operands, kept, Ordinary, AlwaysSized, SizedBy};
+ghost use Rattle.jit_lengths.specs.Lengths.{operands, kept, Ordinary, Sized, AlwaysSized, SizedBy};
 ghost use Rattle.ebpf.specs.Opcode.{kindOf};
 ghost use Rattle.ebpf.specs.declared.kind.ShiftOp.{ShiftOp};
 ghost use Rattle.ebpf.specs.declared.kind.Kind.the-variants.{LdAbs, LdInd, LdReg, StImm, StReg, Neg, MulDivMod};
@@ -27,6 +27,7 @@ use jit_recording::register;
 use x86::R10;
 use x86::R11;
 use x86::RAX;
+use x86::RCX;
 use x86::RDX;
 
 // Arithmetic, and the comparison ahead of a jump.
@@ -57,7 +58,13 @@ fn mov_length(mode: Mode, width: Width, source: Source, i: Insn) -> usize
     ensures { λ r. ⌜ (r ≡ size (movCode mode width source i)) × (r ≤ 17) ⌝ }
 {
     match source {
-        Source::Imm => instruction::rexed_length(width, 0, register::map_register(i.dst), 6),
+        Source::Imm => {
+            let dst = register::map_register(i.dst);
+            match width {
+                Width::W32 => instruction::rexed_length(Width::W32, 0, dst, 6),
+                Width::W64 => instruction::load_signed_length(mode, dst, i.imm),
+            }
+        }
         Source::Reg => match mode::copy_width(mode, width) {
             Width::W32 => {
                 let src = register::map_register(i.src);
@@ -158,25 +165,37 @@ fn by_zero_length(op: MulOp, dst: u8) -> usize
     }
 }
 
-// The divisor's test: the slot's number, the test, its jump; for DIV also the cleared dst and the jump behind it.
-fn guard_length(op: MulOp, width: Width, src: u8, dst: u8) -> usize
+// The slot's number, which is never negative, and the divisor's test.
+fn tested_length(mode: Mode, width: Width, src: u8) -> usize
+    requires { ⌜ src < 16 ⌝ }
+    ensures { λ r. ⌜ ((slot : ℕ) → slot < 2 ^ 16 → r ≡ size (tested mode slot width src)) × (r ≤ 24) ⌝ }
+{
+    let test = instruction::rexed_length(width, src, src, 2);
+    if mode.compact {
+        return 5 + test;
+    }
+    7 + test
+}
+
+// The test and its jump; for DIV also the cleared dst and the jump behind it.
+fn guard_length(mode: Mode, op: MulOp, width: Width, src: u8, dst: u8) -> usize
     requires { ⌜ (src < 16) × (dst < 16) ⌝ }
-    ensures { λ r. ⌜ ((slot : ℕ) → r ≡ size (guard op slot width src dst)) × (r ≤ 60) ⌝ }
+    ensures { λ r. ⌜ ((slot : ℕ) → slot < 2 ^ 16 → r ≡ size (guard mode op slot width src dst)) × (r ≤ 60) ⌝ }
 {
     match op {
         MulOp::Mul => 0,
         MulOp::Div => {
-            let tested = instruction::rexed_length(width, src, src, 2);
-            18 + tested + instruction::rexed_length(Width::W32, dst, dst, 2)
+            let tested = tested_length(mode, width, src);
+            11 + tested + instruction::rexed_length(Width::W32, dst, dst, 2)
         }
-        MulOp::Mod => 13 + instruction::rexed_length(width, src, src, 2),
+        MulOp::Mod => 6 + tested_length(mode, width, src),
     }
 }
 
-// Multiplication, division and modulo, as the Rust has them.
-fn operation_length(op: MulOp, width: Width, source: Source, i: Insn) -> usize
+// Multiplication, division and modulo themselves.
+fn operation_length(mode: Mode, op: MulOp, width: Width, source: Source, i: Insn) -> usize
     requires { ⌜ (i .dst < 11) × (i .src < 11) ⌝ }
-    ensures { λ r. ⌜ ((slot : ℕ) → r ≡ size (mulDivModCode op width source slot i)) × (r ≤ 90) ⌝ }
+    ensures { λ r. ⌜ ((slot : ℕ) → slot < 2 ^ 16 → r ≡ size (mulDivModCode mode op width source slot i)) × (r ≤ 90) ⌝ }
 {
     let dst = register::map_register(i.dst);
     match source {
@@ -184,10 +203,10 @@ fn operation_length(op: MulOp, width: Width, source: Source, i: Insn) -> usize
             if i.imm == 0 {
                 return by_zero_length(op, dst);
             }
-            computed_length(op, width, dst) + 7
+            computed_length(op, width, dst) + instruction::load_signed_length(mode, RCX, i.imm)
         }
         Source::Reg => {
-            let guarded = guard_length(op, width, register::map_register(i.src), dst);
+            let guarded = guard_length(mode, op, width, register::map_register(i.src), dst);
             guarded + (computed_length(op, width, dst) + 3)
         }
     }
@@ -206,17 +225,17 @@ fn cleared_length(mode: Mode, op: MulOp, width: Width, source: Source, i: Insn) 
 
 fn muldivmod_length(mode: Mode, op: MulOp, width: Width, source: Source, i: Insn) -> usize
     requires { ⌜ (i .dst < 11) × (i .src < 11) ⌝ }
-    ensures { λ r. ⌜ ((slot value : ℕ) → r ≡ size (slotCode mode (MulDivMod op width source) slot i value)) × (r ≤ 107) ⌝ }
+    ensures { λ r. ⌜ Sized mode (MulDivMod op width source) i r × (r ≤ 107) ⌝ }
 {
-    cleared_length(mode, op, width, source, i) + operation_length(op, width, source, i)
+    cleared_length(mode, op, width, source, i) + operation_length(mode, op, width, source, i)
 }
 
 // A helper's address is loaded; a call within the program saves four registers.
-pub fn call_length(i: Insn, value: u64) -> usize
-    ensures { λ r. ⌜ ((slot : ℕ) → r ≡ size (callCode slot i value)) × (r ≤ 19) ⌝ }
+pub fn call_length(mode: Mode, i: Insn, value: u64) -> usize
+    ensures { λ r. ⌜ ((slot : ℕ) → r ≡ size (callCode mode slot i value)) × (r ≤ 19) ⌝ }
 {
     if i.src == 0 {
-        return 5 + instruction::load_imm_length(value);
+        return 5 + instruction::load_imm_length(mode, RAX, value);
     }
     19
 }

@@ -137,13 +137,13 @@ module _ (filter : Filter) {n slot : ℕ} (s : Seen (filter .program) n slot) wh
       helper : (h : Helper) → helperOf (filter .ids) (filter .addresses) (i .imm) ≡ h → i .src ≡ 0
           → Saw (pick (isAddress h) Long (Stop (Refusal.UnknownHelper (at slot))))
       helper (Address a) g z =
-          goes Call a is-call (rw (eq-eqb _ _ z, g)) (none-good n slot (slotCode (filter .mode) Call slot i a) (helper-lists slot i a z))
+          goes Call a is-call (rw (eq-eqb _ _ z, g)) (none-good n slot (slotCode (filter .mode) Call slot i a) (helper-lists (filter .mode) slot i a z))
       helper Missing g z = stops Call (Refusal.UnknownHelper (at slot)) is-call (rw (eq-eqb _ _ z, g))
 
       near : (t : Bool) → leb (targetOf slot (i .imm)) n ≡ t → ¬ (i .src ≡ 0) → eqb (i .src) 1 ≡ true → Saw (pick t Long Lost)
       near true q z f =
           goes Call 0 is-call (rw (ne-eqb _ _ z, f))
-          (near-good n slot (targetOf slot (i .imm)) (slotCode (filter .mode) Call slot i 0) (local-lists slot i 0 z) (leb-true (targetOf slot (i .imm)) n q))
+          (near-good n slot (targetOf slot (i .imm)) (slotCode (filter .mode) Call slot i 0) (local-lists (filter .mode) slot i 0 z) (leb-true (targetOf slot (i .imm)) n q))
       near false q z f = tt
 
       other : (x : Bool) → eqb (i .src) 1 ≡ x → ¬ (i .src ≡ 0)

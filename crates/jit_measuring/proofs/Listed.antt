@@ -39,21 +39,21 @@ le-lists m i = empty _ (truncated-jumps m (regOf (i .dst)) (i .imm))
 pub swap-lists : (i : Insn) → targetsOf (swap (regOf (i .dst)) (i .imm)) ≡ []
 swap-lists i = empty _ (swap-jumps (regOf (i .dst)) (i .imm))
 
-pub helper-lists : (slot : ℕ) (i : Insn) (v : ℕ) → i .src ≡ 0 → targetsOf (callCode slot i v) ≡ []
-helper-lists slot i v e = rw (eq-eqb _ _ e)
+pub helper-lists : (m : Mode) (slot : ℕ) (i : Insn) (v : ℕ) → i .src ≡ 0 → targetsOf (callCode m slot i v) ≡ []
+helper-lists m slot i v e = rw (eq-eqb _ _ e)
 
-pub local-lists : (slot : ℕ) (i : Insn) (v : ℕ) → ¬ (i .src ≡ 0) → targetsOf (callCode slot i v) ≡ targetOf slot (i .imm) ∷ []
-local-lists slot i v e = rw (ne-eqb _ _ e)
+pub local-lists : (m : Mode) (slot : ℕ) (i : Insn) (v : ℕ) → ¬ (i .src ≡ 0) → targetsOf (callCode m slot i v) ≡ targetOf slot (i .imm) ∷ []
+local-lists m slot i v e = rw (ne-eqb _ _ e)
 
 -- what the guard of a divisor lists, all of the slot does
-guarded : (o : MulOp) (w : Width) (slot : ℕ) (i : Insn)
-    → targetsOf (mulDivModCode o w Reg slot i) ≡ targetsOf (guard o slot w (regOf (i .src)) (regOf (i .dst)))
-guarded o w slot i =
+guarded : (m : Mode) (o : MulOp) (w : Width) (slot : ℕ) (i : Insn)
+    → targetsOf (mulDivModCode m o w Reg slot i) ≡ targetsOf (guard m o slot w (regOf (i .src)) (regOf (i .dst)))
+guarded m o w slot i =
     let s = regOf (i .src) in
     let d = regOf (i .dst) in
     let operand = op (alu MOV W64 s RCX) ∷ [] in
     let none = empty (targetsOf (computed o w operand d)) (computed-none o w operand d (omega arith)) in
-    targets-append (guard o slot w s d) (computed o w operand d) ∙ rw none (append-nil (targetsOf (guard o slot w s d)))
+    targets-append (guard m o slot w s d) (computed o w operand d) ∙ rw none (append-nil (targetsOf (guard m o slot w s d)))
 
 -- a target up to n is good
 pub near-good : (n slot t : ℕ) (c : Code) → targetsOf c ≡ t ∷ [] → t ≤ n → badIn n slot (targetsOf c) ≡ Nowhere
@@ -64,19 +64,19 @@ pub none-good : (n slot : ℕ) (c : Code) → targetsOf c ≡ [] → badIn n slo
 none-good n slot c e = rw e
 
 -- multiplication and division list no jump, or one to the next slot
-operation-good : (n slot : ℕ) (o : MulOp) (w : Width) (s : Source) (i : Insn) → slot < n
-    → badIn n slot (targetsOf (mulDivModCode o w s slot i)) ≡ Nowhere
-operation-good n slot o w Imm i h = none-good n slot (mulDivModCode o w Imm slot i) (empty _ (imm-jumps o w (regOf (i .dst)) (i .imm)))
-operation-good n slot Mul w Reg i h = none-good n slot (mulDivModCode Mul w Reg slot i) (guarded Mul w slot i)
-operation-good n slot Div w Reg i h = near-good n slot (slot + 1) (mulDivModCode Div w Reg slot i) (guarded Div w slot i) (omega (arith, h))
-operation-good n slot Mod w Reg i h = near-good n slot (slot + 1) (mulDivModCode Mod w Reg slot i) (guarded Mod w slot i) (omega (arith, h))
+operation-good : (m : Mode) (n slot : ℕ) (o : MulOp) (w : Width) (s : Source) (i : Insn) → slot < n
+    → badIn n slot (targetsOf (mulDivModCode m o w s slot i)) ≡ Nowhere
+operation-good m n slot o w Imm i h = none-good n slot (mulDivModCode m o w Imm slot i) (empty _ (imm-jumps m o w (regOf (i .dst)) (i .imm)))
+operation-good m n slot Mul w Reg i h = none-good n slot (mulDivModCode m Mul w Reg slot i) (guarded m Mul w slot i)
+operation-good m n slot Div w Reg i h = near-good n slot (slot + 1) (mulDivModCode m Div w Reg slot i) (guarded m Div w slot i) (omega (arith, h))
+operation-good m n slot Mod w Reg i h = near-good n slot (slot + 1) (mulDivModCode m Mod w Reg slot i) (guarded m Mod w slot i) (omega (arith, h))
 
 -- .. and what standard mode puts ahead of them none
 pub divide-good : (m : Mode) (n slot : ℕ) (o : MulOp) (w : Width) (s : Source) (i : Insn) → slot < n
     → badIn n slot (targetsOf (slotCode m (MulDivMod o w s) slot i 0)) ≡ Nowhere
 divide-good m n slot o w s i h =
     let none = empty (targetsOf (cleared m o w s i)) (cleared-jumps m o w s i) in
-    rw (targets-append (cleared m o w s i) (mulDivModCode o w s slot i), none) (operation-good n slot o w s i h)
+    rw (targets-append (cleared m o w s i) (mulDivModCode m o w s slot i), none) (operation-good m n slot o w s i h)
 
 -- a slot with one target is followed by the next one, well or not
 pub next-jump : (n slot t : ℕ)

@@ -57,7 +57,7 @@ finds-plain filter {n} {slot} s x bytes e u v p h = by (kinded filter s x e u v 
         let i = insnAt (filter .program) slot in
         let sized = rw (k .is) at h in
         rw (step-of filter s (k .kind) (k .is), k .plainly .takes)
-        (finds-none (filter .mode) (k .kind) n slot i 0 (sized slot 0) (k .plainly .narrow) (k .plainly .good))
+        (finds-none (filter .mode) (k .kind) n slot i 0 (sized slot 0 (omega (arith, s .below, s .few))) (k .plainly .narrow) (k .plainly .good))
 
 -- the kinds with an arm of their own in `measure_slot`, in the reverse of their order there
 abbrev pub measured-apart : List (Arm Bool)

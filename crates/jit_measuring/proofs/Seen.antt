@@ -85,11 +85,12 @@ pub record Seen (program : List ℕ) (n slot : ℕ) : Type 0 where
   pub there : 8 * slot + 8 ≤ length program
   pub all : (8 * n ≤ length program) × (length program < 8 * n + 8)
   pub below : slot < n
+  pub few : n < 2 ^ 16
   pub dst : insnAt program slot .dst ≤ 10
   pub src : insnAt program slot .src ≤ 10
 
 pub seen : (program : List ℕ) {n slot : ℕ} → In program n slot → insnAt program slot .dst ≤ 10 → insnAt program slot .src ≤ 10 → Seen program n slot
-seen program h d s = record { there = omega (arith, h); all = (omega (arith, h), omega (arith, h)); below = h .1 .0; dst = d; src = s }
+seen program h d s = record { there = omega (arith, h); all = (omega (arith, h), omega (arith, h)); below = h .1 .0; few = h .1 .1; dst = d; src = s }
 
 module _ (filter : Filter) {n slot : ℕ} (s : Seen (filter .program) n slot) where
   abbrev i : Insn

@@ -91,17 +91,20 @@ fn jumps(size: usize, n: usize, target: u32) -> Look
     }
 }
 
-fn measure_wide(prog: &[u8], slot: Slot, i: Insn) -> Look
-    requires { ⌜ slot .number < 2 ^ 40 ⌝ }
-    ensures { λ r. ⌜ ((n : ℕ) → AlwaysTakes n LdDwImm slot i (wideValue (slot .number) i (readBehind prog slot)) r) ⌝ }
+fn measure_wide(prog: &[u8], mode: Mode, slot: Slot, i: Insn) -> Look
+    requires { ⌜ (i .dst < 11) × (slot .number < 2 ^ 40) ⌝ }
+    ensures { λ r. ⌜ ((n : ℕ) → Takes mode n LdDwImm slot i (wideValue (slot .number) i (readBehind prog slot)) r) ⌝ }
 {
     match operand::wide_operand(prog, slot, i) {
         Operand::Lacks(refusal) => stops(refusal),
-        Operand::Has(value) => Look {
-            verdict: Verdict::Good,
-            size: instruction::load_imm_length(value),
-            next: Next::Wide,
-        },
+        Operand::Has(value) => {
+            let dst = register::map_register(i.dst);
+            Look {
+                verdict: Verdict::Good,
+                size: instruction::load_imm_length(mode, dst, value),
+                next: Next::Wide,
+            }
+        }
     }
 }
 
@@ -133,14 +136,14 @@ fn measure_jump(n: usize, slot: Slot, i: Insn) -> Look
     jumps(JCC_SIZE + size, n, emission::target_of(slot, i.off))
 }
 
-fn measure_call(ids: &[u32], addresses: &[u64], n: usize, slot: Slot, i: Insn) -> Look
+fn measure_call(mode: Mode, ids: &[u32], addresses: &[u64], n: usize, slot: Slot, i: Insn) -> Look
     requires { ⌜ Paired ids addresses × (slot .number < 2 ^ 16) ⌝ }
-    ensures { λ r. ⌜ AlwaysTakes n Call slot i (callValue ids addresses slot i) r ⌝ }
+    ensures { λ r. ⌜ Takes mode n Call slot i (callValue ids addresses slot i) r ⌝ }
 {
     match operand::call_operand(ids, addresses, slot, i) {
         Operand::Lacks(refusal) => stops(refusal),
         Operand::Has(value) => {
-            let size = lengths::call_length(i, value);
+            let size = lengths::call_length(mode, i, value);
             if i.src == 0 {
                 return plain(size);
             }
@@ -176,14 +179,14 @@ fn measure_slot(
     match number {
         kind::KIND_UNKNOWN => stops(Refusal::UnknownOpcode(slot)),
         kind::KIND_UNIMPLEMENTED => stops(Refusal::Unimplemented(slot)),
-        kind::KIND_LD_DW_IMM => measure_wide(prog, slot, insn::insn_at(prog, slot)),
+        kind::KIND_LD_DW_IMM => measure_wide(prog, mode, slot, insn::insn_at(prog, slot)),
         kind::KIND_BE => measure_swap(slot, insn::insn_at(prog, slot)),
         kind::KIND_JA => {
             let target = emission::target_of(slot, insn::offset_at(prog, at + 2));
             jumps(JMP_SIZE, n, target)
         }
         kind::KIND_JUMP => measure_jump(n, slot, insn::insn_at(prog, slot)),
-        kind::KIND_CALL => measure_call(ids, addresses, n, slot, insn::insn_at(prog, slot)),
+        kind::KIND_CALL => measure_call(mode, ids, addresses, n, slot, insn::insn_at(prog, slot)),
         kind::KIND_LE => measure_le(mode, slot, insn::insn_at(prog, slot)),
         _ => plain(lengths::slot_length(mode, number, opc, prog, slot)),
     }

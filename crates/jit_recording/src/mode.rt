@@ -1,6 +1,9 @@
-// What standard mode changes, as the lengths and the handlers ask of it: where a move has its own width, and where the upper half of dst is
-// cleared ahead of a modulo.
+// What the mode changes, as the lengths and the handlers ask of it. Standard: where a move has its own width, and where the upper half of dst
+// is cleared ahead of a modulo. Compact: which constants are loaded in four bytes.
 ghost use mathlib.Core.Path.{_≡_};
+ghost use mathlib.Core.Bool.{_&&_};
+ghost use Prim.Native.Nat.{_^_};
+ghost use lib.Dec.{ltb};
 ghost use Rattle.jit.specs.Slots.{leavesDst, clears, copyWidth};
 use base::Width;
 use ebpf::kind::MulOp;
@@ -41,4 +44,17 @@ pub fn clears(mode: Mode, op: MulOp, width: Width, source: Source, imm: u32) -> 
         return leaves_dst(op, width, source, imm);
     }
     false
+}
+
+// A constant of 64 bits, and an immediate, which is extended by its sign.
+pub fn is_low(mode: Mode, value: u64) -> bool
+    ensures { λ r. ⌜ r ≡ (mode .compact && ltb value (2 ^ 32)) ⌝ }
+{
+    mode.compact && value < 0x1_0000_0000
+}
+
+pub fn is_low_imm(mode: Mode, imm: u32) -> bool
+    ensures { λ r. ⌜ r ≡ (mode .compact && ltb imm (2 ^ 31)) ⌝ }
+{
+    mode.compact && imm < 0x8000_0000
 }

@@ -1,25 +1,29 @@
 -- The code of crate jit, with the notes that it asks for, passes both checks: by computation, over all registers of the program where they
 -- matter. A slot is checked with `stop` behind it, which stands for what may follow: it wants nothing known and nothing pushed.
-use mathlib.Core.Path.{_≡_, ap}
+use mathlib.Core.Path.{_≡_, refl, ap}
 use mathlib.Core.Bool.{Bool, true, false, _&&_, _||_}
 use mathlib.Core.List.{List, [], _∷_, _++_}
-use Prim.Native.Nat.{ℕ, zero, suc}
-use lib.Dec.{T, eqb, eqb→eq}
-use lib.ListN.{getD}
-use Rattle.base.proofs.Tests.{and-l, and-r, or-elim}
+use Prim.Native.Nat.{ℕ, zero, suc, _^_, _<_}
+use lib.Dec.{T, ltb, eqb, eqb→eq, ltb→lt}
+use lib.ListN.{getD, drop}
+use Rattle.base.specs.Pick.{pick}
+use Rattle.base.proofs.Tests.{true-T, and-l, and-r, or-elim}
 use Rattle.base.specs.declared.Width.{Width}
 use Rattle.base.specs.declared.Width.the-variants.{W32, W64}
 use Rattle.ebpf.specs.declared.kind.MulOp.{MulOp}
 use Rattle.ebpf.specs.declared.kind.MulOp.the-variants.{Mul, Div, Mod}
 use Rattle.x86.specs.Registers.{RAX, RCX, RDX, RBX, RBP, RSI, RDI, R8, R9, R13, R14, R15}
-use Rattle.x86.specs.Instr.{Instr, op, aluImm, MOV, jump, jmp, call, jcc, callReg, ret}
+use Rattle.x86.specs.Instr.{Instr, Plain, op, aluImm, movImm, MOV, jump, jmp, call, jcc, callReg, ret}
 use Rattle.x86.specs.Encode.{rex}
 use Rattle.x86.specs.Code.{Dest, near, to}
 use Rattle.jit.specs.Limits.{anchor}
+use Rattle.jit.specs.Constants.{extends, loaded}
 use Rattle.jit.specs.MulDivMod.{Code, computed, mulDivModReg}
 use Rattle.jit.specs.Slots.{regOf, localCall}
 use Rattle.jit.specs.Frame.{saves, packetStart, packetEnd, argument, enter, prologue, epilogue}
+use Rattle.jit.specs.Modes.{rust}
 use Rattle.jit.specs.declared.Flags.{Flags}
+use Rattle.jit.specs.declared.Mode.{Mode}
 use Rattle.jit_safety.proofs.Cells.{Cell, cell, cellLen}
 use Rattle.code.proofs.Placed.{fits}
 use Rattle.jit_safety.proofs.Flow.{asks, flowing}
@@ -64,8 +68,14 @@ pub register : (P : ℕ → Bool) → T (everyRegister P) → (n : ℕ) → T (P
 unfolding regOf
 register P t n = every-at P registers t n
 
+-- By a register, behind the slot's number, which DIV and MOD load first: the same in every mode, since no other constant is loaded.
+abbrev pub byReg : MulOp → (slot : ℕ) → Width → (src dst : ℕ) → Code
+byReg Mul slot w s d = mulDivModReg rust Mul slot w s d
+byReg Div slot w s d = drop 1 (mulDivModReg rust Div slot w s d)
+byReg Mod slot w s d = drop 1 (mulDivModReg rust Mod slot w s d)
+
 -- 11 × 11 registers, three operations, two widths
-reg-table : (o : MulOp) (w : Width) (slot : ℕ) → T (everyRegister (λ s. everyRegister (λ d. fineCode (mulDivModReg o slot w s d))))
+reg-table : (o : MulOp) (w : Width) (slot : ℕ) → T (everyRegister (λ s. everyRegister (λ d. fineCode (byReg o slot w s d))))
 unfolding rex
 reg-table Mul W32 slot = tt
 reg-table Mul W64 slot = tt
@@ -74,16 +84,29 @@ reg-table Div W64 slot = tt
 reg-table Mod W32 slot = tt
 reg-table Mod W64 slot = tt
 
-pub reg-fine : (o : MulOp) (w : Width) (slot s d : ℕ) → T (fineCode (mulDivModReg o slot w (regOf s) (regOf d)))
+pub reg-fine : (o : MulOp) (w : Width) (slot s d : ℕ) → T (fineCode (byReg o slot w (regOf s) (regOf d)))
 reg-fine o w slot s d =
-    register (λ d. fineCode (mulDivModReg o slot w (regOf s) d))
-    (register (λ s. everyRegister (λ d. fineCode (mulDivModReg o slot w s d))) (reg-table o w slot) s) d
+    register (λ d. fineCode (byReg o slot w (regOf s) d))
+    (register (λ s. everyRegister (λ d. fineCode (byReg o slot w s d))) (reg-table o w slot) s) d
 
--- an immediate that is not 0 stays a variable
-abbrev pub byImm : MulOp → Width → (dst imm : ℕ) → Code
-byImm o w d x = computed o w (op (aluImm MOV W64 RCX x) ∷ []) d
+-- An immediate is loaded as C7, or compact as B8+r with four bytes: what holds of both holds of the one that the mode takes.
+pub as-loaded : (P : Plain → Type 0) (m : Mode) (w : Width) (r x : ℕ) → P (aluImm MOV w r x) → (x < 2 ^ 31 → P (movImm W32 r x))
+    → P (loaded m (aluImm MOV w r x))
+as-loaded P m w r x whole low = by (m .compact) (extends MOV w && ltb x (2 ^ 31)) refl
+  where
+    by : (c t : Bool) → (extends MOV w && ltb x (2 ^ 31)) ≡ t → P (pick c (pick t (movImm W32 r x) (aluImm MOV w r x)) (aluImm MOV w r x))
+    by true true e = low (ltb→lt x (2 ^ 31) (and-r (extends MOV w) (ltb x (2 ^ 31)) (true-T _ e)))
+    by true false e = whole
+    by false t e = whole
 
-imm-table : (o : MulOp) (w : Width) (x : ℕ) → eqb x 0 ≡ false → T (everyRegister (λ d. fineCode (byImm o w d x)))
+-- an immediate that is not 0 stays a variable; `operand` loads it
+abbrev pub byImm : MulOp → Width → (operand : Plain) → (dst : ℕ) → Code
+byImm o w p d = computed o w (op p ∷ []) d
+
+abbrev FineBy : MulOp → Width → Plain → Type 0
+FineBy o w p = T (everyRegister (λ d. fineCode (byImm o w p d)))
+
+imm-table : (o : MulOp) (w : Width) (x : ℕ) → eqb x 0 ≡ false → FineBy o w (aluImm MOV W64 RCX x)
 imm-table Mul W32 x e = tt
 imm-table Mul W64 x e = tt
 imm-table Div W32 x e = rw e tt
@@ -91,8 +114,18 @@ imm-table Div W64 x e = rw e tt
 imm-table Mod W32 x e = rw e tt
 imm-table Mod W64 x e = rw e tt
 
-pub imm-fine : (o : MulOp) (w : Width) (d x : ℕ) → eqb x 0 ≡ false → T (fineCode (byImm o w (regOf d) x))
-imm-fine o w d x e = register (λ d. fineCode (byImm o w d x)) (imm-table o w x e) d
+low-table : (o : MulOp) (w : Width) (x : ℕ) → eqb x 0 ≡ false → FineBy o w (movImm W32 RCX x)
+low-table Mul W32 x e = tt
+low-table Mul W64 x e = tt
+low-table Div W32 x e = rw e tt
+low-table Div W64 x e = rw e tt
+low-table Mod W32 x e = rw e tt
+low-table Mod W64 x e = rw e tt
+
+pub imm-fine : (m : Mode) (o : MulOp) (w : Width) (d x : ℕ) → eqb x 0 ≡ false → T (fineCode (byImm o w (loaded m (aluImm MOV W64 RCX x)) (regOf d)))
+imm-fine m o w d x e =
+    register (λ d. fineCode (byImm o w (loaded m (aluImm MOV W64 RCX x)) d))
+    (as-loaded (FineBy o w) m W64 RCX x (imm-table o w x e) (λ h. low-table o w x e)) d
 
 pub local-fine : (t : ℕ) → T (fineCode (localCall t))
 local-fine t = tt

@@ -14,7 +14,7 @@ use Rattle.base.proofs.Tests.{true-T, and-l, and-r, or-elim, leb-true}
 use Rattle.base.specs.declared.Width.{Width}
 use Rattle.base.specs.declared.Width.the-variants.{W32, W64}
 use Rattle.x86.specs.Registers.{RSP}
-use Rattle.x86.specs.Instr.{Alu, ADD, OR, AND, SUB, XOR, CMP, MOV, TEST, Plain, push, pop, alu, aluImm, shiftImm, shiftCl, unary, movabs, rol16, bswap, load}
+use Rattle.x86.specs.Instr.{Alu, ADD, OR, AND, SUB, XOR, CMP, MOV, TEST, Plain, push, pop, alu, aluImm, shiftImm, shiftCl, unary, movImm, rol16, bswap, load}
 use Rattle.x86.specs.Instr.{store, storeImm, jmp, call, jcc, Instr, op, jump, callReg, ret}
 use Rattle.x86.specs.Encode.{len}
 use Rattle.x86.specs.Decode.{got, decode}
@@ -60,7 +60,7 @@ sinks (aluImm o w r x) d = pick (eqb r RSP) (adjusted o d x) d
 sinks (shiftImm o w r i) d = d
 sinks (shiftCl o w r) d = d
 sinks (unary o w r) d = d
-sinks (movabs r i) d = d
+sinks (movImm w r i) d = d
 sinks (rol16 r i) d = d
 sinks (bswap w r) d = d
 sinks (load z b r x) d = d
@@ -84,7 +84,7 @@ steady (aluImm o w r x) d = pick (eqb r RSP) (adjusts o w d x) (keepsRsp (aluImm
 steady (shiftImm o w r i) d = keepsRsp (shiftImm o w r i)
 steady (shiftCl o w r) d = keepsRsp (shiftCl o w r)
 steady (unary o w r) d = keepsRsp (unary o w r)
-steady (movabs r i) d = keepsRsp (movabs r i)
+steady (movImm w r i) d = keepsRsp (movImm w r i)
 steady (rol16 r i) d = keepsRsp (rol16 r i)
 steady (bswap w r) d = keepsRsp (bswap w r)
 steady (load z b r x) d = keepsRsp (load z b r x)
@@ -215,7 +215,7 @@ module _ (g : Regs) (d t : ℕ) (b : (g RSP + d) % 2 ^ 64 ≡ t) where
   below-of (shiftImm o w r i) u k = kept-below (shiftImm o w r i) u k
   below-of (shiftCl o w r) u k = kept-below (shiftCl o w r) u k
   below-of (unary o w r) u k = kept-below (unary o w r) u k
-  below-of (movabs r i) u k = kept-below (movabs r i) u k
+  below-of (movImm w r i) u k = kept-below (movImm w r i) u k
   below-of (rol16 r i) u k = kept-below (rol16 r i) u k
   below-of (bswap w r) u k = kept-below (bswap w r) u k
   below-of (load z c r x) u k = kept-below (load z c r x) u k

@@ -16,7 +16,7 @@ use Rattle.base.specs.declared.Width.{Width}
 use Rattle.base.specs.declared.Width.the-variants.{W32, W64}
 use Rattle.x86.specs.Registers.{RAX, RDX, RSP}
 use Rattle.x86.specs.Instr.{Alu, ADD, OR, AND, SUB, XOR, CMP, MOV, TEST, Unary, NEG, MUL, DIV, Cond, JB, JAE, JE, JNE, JBE, JA, JL, JGE, JLE, JG, Plain, push}
-use Rattle.x86.specs.Instr.{pop, alu, aluImm, shiftImm, shiftCl, unary, movabs, rol16, bswap, load, store, storeImm}
+use Rattle.x86.specs.Instr.{pop, alu, aluImm, shiftImm, shiftCl, unary, movImm, rol16, bswap, load, store, storeImm}
 use Rattle.x86.proofs.WellFormed.{WfPlain}
 use Rattle.x86_machine.proofs.MachineWords.{rd-lt}
 use Rattle.x86_machine.specs.Machine.{Regs, bits, rd, put, Write, puts, Status, Input, extended, result, aluWrites, aluStatus, dividend, divides, writesOf, statusOf, faultsOf, holds}
@@ -76,7 +76,7 @@ keysOf (aluImm o w d i) = aluKeys o d
 keysOf (shiftImm o w d i) = d ∷ []
 keysOf (shiftCl o w d) = d ∷ []
 keysOf (unary o w r) = unaryKeys o r
-keysOf (movabs d i) = d ∷ []
+keysOf (movImm w d i) = d ∷ []
 keysOf (rol16 d i) = d ∷ []
 keysOf (bswap w d) = d ∷ []
 keysOf (load z b d x) = d ∷ []
@@ -101,7 +101,7 @@ quiet (aluImm o w d i) = isMov o
 quiet (shiftImm o w d i) = false
 quiet (shiftCl o w d) = false
 quiet (unary o w r) = false
-quiet (movabs d i) = true
+quiet (movImm w d i) = true
 quiet (rol16 d i) = false
 quiet (bswap w d) = true
 quiet (load z b d x) = true
@@ -139,6 +139,11 @@ immNew CMP w d x = []
 immNew MOV w d x = pick (eqb x 0) [] (nz W32 d ∷ nz W64 d ∷ [])
 immNew TEST w d x = []
 
+-- B8+r, of which only the form of four bytes is ever asked
+abbrev pub constantNew : Width → (dst imm : ℕ) → List Fact
+constantNew W32 d x = immNew MOV W32 d x
+constantNew W64 d x = []
+
 abbrev pub news : Plain → List Fact → List Fact
 news (push r) F = []
 news (pop r) F = []
@@ -147,7 +152,7 @@ news (aluImm o w d i) F = immNew o w d i
 news (shiftImm o w d i) F = []
 news (shiftCl o w d) F = []
 news (unary o w r) F = []
-news (movabs d i) F = []
+news (movImm w d i) F = constantNew w d i
 news (rol16 d i) F = []
 news (bswap w d) F = []
 news (load z b d x) F = []
@@ -172,7 +177,7 @@ needs (aluImm o w d i) = []
 needs (shiftImm o w d i) = []
 needs (shiftCl o w d) = []
 needs (unary o w r) = unaryNeeds o w r
-needs (movabs d i) = []
+needs (movImm w d i) = []
 needs (rol16 d i) = []
 needs (bswap w d) = []
 needs (load z b d x) = []
@@ -320,7 +325,7 @@ keys-of (shiftCl o w d) g u = refl
 keys-of (unary NEG w r) g u = refl
 keys-of (unary MUL w r) g u = refl
 keys-of (unary DIV w r) g u = refl
-keys-of (movabs d i) g u = refl
+keys-of (movImm w d i) g u = refl
 keys-of (rol16 d i) g u = refl
 keys-of (bswap w d) g u = refl
 keys-of (load z b d x) g u = refl
@@ -345,7 +350,7 @@ quiet-of (aluImm o w d i) g f u t = alu-quiet o w (rd w g d) (extended w i) f t
 quiet-of (shiftImm o w d i) g f u t = absurd t
 quiet-of (shiftCl o w d) g f u t = absurd t
 quiet-of (unary o w r) g f u t = absurd t
-quiet-of (movabs d i) g f u t = refl
+quiet-of (movImm w d i) g f u t = refl
 quiet-of (rol16 d i) g f u t = absurd t
 quiet-of (bswap w d) g f u t = refl
 quiet-of (load z b d x) g f u t = refl
@@ -446,6 +451,19 @@ imm-known MOV w d x g f h = go (eqb x 0) refl
     go false e = rw e (imm-put W32 w g d x h (not-zero x e), (imm-put W64 w g d x h (not-zero x e), tt))
 imm-known TEST w d x g f h = tt
 
+-- a constant of four bytes leaves what C7 leaves at 32 bits
+low-word : (x : ℕ) → x < 2 ^ 32 → x % 2 ^ 32 ≡ extended W32 x
+low-word x h = go (ltb x (2 ^ 31)) refl
+  where
+    go : (b : Bool) → ltb x (2 ^ 31) ≡ b → x % 2 ^ 32 ≡ extended W32 x
+    go true e = rw e (omega arith)
+    go false e = rw e (omega arith)
+
+constant-known : (w : Width) (d x : ℕ) (g : Regs) (f : Status) → x < 2 ^ bits w → Known (constantNew w d x) (put g d (x % 2 ^ bits w)) f
+unfolding result
+constant-known W32 d x g f h = rw (low-word x h) (imm-known MOV W32 d x g f h)
+constant-known W64 d x g f h = tt
+
 news-known : (p : Plain) (g : Regs) (f : Status) (u : Input) (F : List Fact) → WfPlain p → Known F g f
     → Known (news p F) (puts (writesOf p g u) g) (statusOf p g f u)
 news-known (push r) g f u F t k = tt
@@ -455,7 +473,7 @@ news-known (aluImm o w d i) g f u F t k = imm-known o w d i g (aluStatus o w (rd
 news-known (shiftImm o w d i) g f u F t k = tt
 news-known (shiftCl o w d) g f u F t k = tt
 news-known (unary o w r) g f u F t k = tt
-news-known (movabs d i) g f u F t k = tt
+news-known (movImm w d i) g f u F t k = constant-known w d i g f (t .1)
 news-known (rol16 d i) g f u F t k = tt
 news-known (bswap w d) g f u F t k = tt
 news-known (load z b d x) g f u F t k = tt
@@ -489,7 +507,7 @@ no-fault (aluImm o w d i) g f k = refl
 no-fault (shiftImm o w d i) g f k = refl
 no-fault (shiftCl o w d) g f k = refl
 no-fault (unary o w r) g f k = unary-safe o w r g f k
-no-fault (movabs d i) g f k = refl
+no-fault (movImm w d i) g f k = refl
 no-fault (rol16 d i) g f k = refl
 no-fault (bswap w d) g f k = refl
 no-fault (load z b d x) g f k = refl

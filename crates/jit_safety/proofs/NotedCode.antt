@@ -6,6 +6,7 @@ use Prim.Native.Nat.{ℕ, _+_, _%_, _^_, _<_}
 use native.Mathlib.Omega.{arith}
 use lib.Dec.{T, T-not, ltb, eqb, ltb→lt}
 use Rattle.base.specs.Pick.{pick}
+use Rattle.base.specs.Widths.{bits}
 use Rattle.base.proofs.Tests.{true-T, and-l, and-r, eqb-true}
 use Rattle.base.specs.declared.Width.{Width}
 use Rattle.base.specs.declared.Width.the-variants.{W32, W64}
@@ -20,7 +21,7 @@ use Rattle.ebpf.specs.declared.kind.Kind.{Kind}
 use Rattle.ebpf.specs.declared.kind.Kind.the-variants.{LdAbs, LdInd, LdDwImm, LdReg, StImm, StReg, Alu, Shift, Neg, MulDivMod, Mov, Le, Be, Ja, Jump, Call, Exit}
 use Rattle.x86.specs.Registers.{RAX, RCX, RDX, R9}
 use Rattle.x86.specs.Instr as x86
-use Rattle.x86.specs.Instr.{Plain, immBits, push, pop, alu, aluImm, shiftImm, shiftCl, unary, movabs, rol16, bswap, load, jmp, call, jcc, Instr, op, jump}
+use Rattle.x86.specs.Instr.{Plain, immBits, push, pop, alu, aluImm, shiftImm, shiftCl, unary, movImm, rol16, bswap, load, jmp, call, jcc, Instr, op, jump}
 use Rattle.x86.specs.Instr.{callReg, ADD, OR, AND, SUB, XOR, CMP, MOV, TEST, NEG}
 use Rattle.x86.proofs.WellFormed.{Base, WfPlain}
 use Rattle.x86.specs.Encode.{rex}
@@ -28,16 +29,18 @@ use Rattle.x86.proofs.Lengths.{plain-most}
 use Rattle.x86.specs.Code.{Dest, to}
 use Rattle.jit.specs.MulDivMod.{Code, when, unlessIs, byZero, guard, operate, fromRax, saved, restored, restores, operated, computed, mulDivModImm, mulDivModReg}
 use Rattle.jit.specs.MulDivMod as jit
-use Rattle.jit.specs.Slots.{regOf, targetOf, loadImm, aluOf, shiftOf, condOf, testOf, swap, helperCall, localCall, callCode}
+use Rattle.jit.specs.Constants.{loadImm, loaded}
+use Rattle.jit.specs.Slots.{regOf, targetOf, aluOf, shiftOf, condOf, testOf, swap, helperCall, localCall, callCode}
 use Rattle.jit.specs.Slots.{lowerHalf, lowest16, clears, cleared, copyWidth, truncated, slotCode}
 use Rattle.jit.specs.declared.Mode.{Mode}
 use Rattle.jit.specs.Frame.{saves, packetStart, packetEnd, argument, enter, prologue, epilogue}
+use Rattle.jit.specs.Modes.{rust}
 use Rattle.jit.specs.declared.Flags.{Flags}
 use Rattle.x86.proofs.ReadsLaws.{WfDest, WfCode, wf-append}
 use Rattle.jit_safety.proofs.Cells.{instrs}
 use Rattle.jit_safety.proofs.Depth.{framed}
 use Rattle.jit_safety.proofs.Notes.{plain, annotated, codes-annotated, prologueCells, epilogueCells}
-use Rattle.jit_safety.proofs.Checked.{fineNotes, byImm, everyRegister, register, reg-fine, imm-fine, local-fine}
+use Rattle.jit_safety.proofs.Checked.{fineNotes, byReg, byImm, everyRegister, register, reg-fine, as-loaded, imm-fine, local-fine}
 use Rattle.jit_safety.proofs.Pieces.{Piece, append, none, found, unnoted, allListed, skipsIn, instrs-laid}
 
 -- What a slot's numbers are: fields of a slot, and what it takes from elsewhere.
@@ -86,25 +89,32 @@ imm-piece o w d x h = unnoted _ (register (λ r. fineNotes (plain (op (aluImm o 
     by MOV = tt
     by TEST = tt
 
--- a constant
-load-wf : (d v : ℕ) → d < 16 → v < 2 ^ 64 → WfPlain (loadImm d v)
-unfolding loadImm
-load-wf d v h g = by (ltb ((v + 2 ^ 31) % 2 ^ 64) (2 ^ 32))
-  where
-    by : (t : Bool) → WfPlain (pick t (aluImm MOV W64 d (v % 2 ^ 32)) (movabs d v))
-    by true = (h, omega arith)
-    by false = (h, g)
+-- a constant, in the form that the mode takes: of the immediate and of the slot's number, and of 64 bits
+constant-piece : (w : Width) (d x : ℕ) → x < 2 ^ bits w → Piece (op (movImm w (regOf d) x) ∷ [])
+constant-piece w d x h = unnoted _ (register (λ r. fineNotes (plain (op (movImm w r x) ∷ []))) tt d) ((reg-lt d, h), tt) tt
 
-load-fine : (d v : ℕ) → T (fineNotes (plain (op (loadImm (regOf d) v) ∷ [])))
-unfolding loadImm
-load-fine d v = by (ltb ((v + 2 ^ 31) % 2 ^ 64) (2 ^ 32))
-  where
-    by : (t : Bool) → T (fineNotes (plain (op (pick t (aluImm MOV W64 (regOf d) (v % 2 ^ 32)) (movabs (regOf d) v)) ∷ [])))
-    by true = register (λ r. fineNotes (plain (op (aluImm MOV W64 r (v % 2 ^ 32)) ∷ []))) tt d
-    by false = register (λ r. fineNotes (plain (op (movabs r v) ∷ []))) tt d
+immediate-piece : (m : Mode) (w : Width) (d x : ℕ) → x < 2 ^ 32 → Piece (op (loaded m (aluImm MOV w (regOf d) x)) ∷ [])
+immediate-piece m w d x h = as-loaded (λ p. Piece (op p ∷ [])) m w (regOf d) x (imm-piece MOV w d x h) (λ g. constant-piece W32 d x h)
 
-load-piece : (d v : ℕ) → v < 2 ^ 64 → Piece (op (loadImm (regOf d) v) ∷ [])
-load-piece d v h = unnoted _ (load-fine d v) (load-wf (regOf d) v (reg-lt d) h, tt) tt
+number-piece : (m : Mode) (slot : ℕ) → slot < 2 ^ 32 → Piece (op (loaded m (aluImm MOV W64 RCX slot)) ∷ [])
+number-piece m slot h =
+    as-loaded (λ p. Piece (op p ∷ [])) m W64 RCX slot (unnoted _ tt ((omega arith, h), tt) tt) (λ g. unnoted _ tt ((omega arith, h), tt) tt)
+
+load-piece : (m : Mode) (d v : ℕ) → v < 2 ^ 64 → Piece (op (loaded m (loadImm (regOf d) v)) ∷ [])
+unfolding loadImm
+load-piece m d v h = by (ltb ((v + 2 ^ 31) % 2 ^ 64) (2 ^ 32))
+  where
+    r : ℕ
+    r = regOf d
+
+    whole : (c t : Bool) → ltb v (2 ^ 32) ≡ t → Piece (op (pick c (pick t (movImm W32 r v) (movImm W64 r v)) (movImm W64 r v)) ∷ [])
+    whole true true e = constant-piece W32 d v (ltb→lt v (2 ^ 32) (true-T _ e))
+    whole true false e = constant-piece W64 d v h
+    whole false t e = constant-piece W64 d v h
+
+    by : (t : Bool) → Piece (op (loaded m (pick t (aluImm MOV W64 r (v % 2 ^ 32)) (movImm W64 r v))) ∷ [])
+    by true = immediate-piece m W64 d (v % 2 ^ 32) (omega arith)
+    by false = whole (m .compact) (ltb v (2 ^ 32)) refl
 
 -- an immediate is stored with as many bits as there is room for
 stored-lt : (z : Size) (i : ℕ) → i % 2 ^ immBits z < 2 ^ immBits z
@@ -133,18 +143,12 @@ swap-piece d bits =
     (unnoted _ (register (λ r. fineNotes (plain (op (bswap W64 r) ∷ []))) tt d) (reg-lt d, tt) tt))
 
 -- CALL
-helper-piece : (a : ℕ) → a < 2 ^ 64 → Piece (helperCall a)
-unfolding loadImm
-helper-piece a h =
-    append (op (alu MOV W64 R9 RCX) ∷ []) (op (loadImm RAX a) ∷ callReg RAX ∷ []) (unnoted _ tt ((omega arith, omega arith), tt) tt)
-    (append (op (loadImm RAX a) ∷ []) (callReg RAX ∷ []) (unnoted _ rax (load-wf RAX a (omega arith) h, tt) tt) (unnoted _ tt (omega arith, tt) tt))
-  where
-    rax : T (fineNotes (plain (op (loadImm RAX a) ∷ [])))
-    rax = by (ltb ((a + 2 ^ 31) % 2 ^ 64) (2 ^ 32))
-      where
-        by : (t : Bool) → T (fineNotes (plain (op (pick t (aluImm MOV W64 RAX (a % 2 ^ 32)) (movabs RAX a)) ∷ [])))
-        by true = tt
-        by false = tt
+helper-piece : (m : Mode) (a : ℕ) → a < 2 ^ 64 → Piece (helperCall m a)
+unfolding regOf
+helper-piece m a h =
+    let address = op (loaded m (loadImm RAX a)) in
+    append (op (alu MOV W64 R9 RCX) ∷ []) (address ∷ callReg RAX ∷ []) (unnoted _ tt ((omega arith, omega arith), tt) tt)
+    (append (address ∷ []) (callReg RAX ∷ []) (load-piece m 0 a h) (unnoted _ tt (omega arith, tt) tt))
 
 local-piece : (t : ℕ) → Piece (localCall t)
 local-piece t = found (localCall t) (local-fine t) (omega arith) tt
@@ -181,49 +185,68 @@ computed-wf o w operand d h g =
     wf-append (jit.saves d) (operand ∷ operated o w d) (saves-wf d)
     (h, ((g, omega arith), wf-append (operate o w) (restores o d) (operate-wf o w) (restores-wf o d g)))
 
-guard-wf : (o : MulOp) (slot : ℕ) (w : Width) (s d : ℕ) → slot < 2 ^ 32 → s < 16 → d < 16 → WfCode (guard o slot w s d)
+guard-wf : (o : MulOp) (slot : ℕ) (w : Width) (s d : ℕ) → slot < 2 ^ 32 → s < 16 → d < 16 → WfCode (guard rust o slot w s d)
 guard-wf Mul slot w s d h hs hd = tt
 guard-wf Div slot w s d h hs hd = omega (arith, plain-most (alu XOR W32 d d))
 guard-wf Mod slot w s d h hs hd = omega arith
 
 -- their skips
-reg-skips : (o : MulOp) (slot : ℕ) (w : Width) (s d : ℕ) → T (skipsIn (mulDivModReg o slot w s (regOf d)))
+reg-skips : (o : MulOp) (slot : ℕ) (w : Width) (s d : ℕ) → T (skipsIn (byReg o slot w s (regOf d)))
 unfolding rex
-reg-skips o slot w s d = register (λ r. skipsIn (mulDivModReg o slot w s r)) (by o) d
+reg-skips o slot w s d = register (λ r. skipsIn (byReg o slot w s r)) (by o) d
   where
-    by : (o : MulOp) → T (everyRegister (λ r. skipsIn (mulDivModReg o slot w s r)))
+    by : (o : MulOp) → T (everyRegister (λ r. skipsIn (byReg o slot w s r)))
     by Mul = tt
     by Div = tt
     by Mod = tt
 
-imm-skips : (o : MulOp) (w : Width) (d x : ℕ) → T (skipsIn (byImm o w (regOf d) x))
-imm-skips o w d x = register (λ r. skipsIn (byImm o w r x)) (by o) d
+imm-skips : (o : MulOp) (w : Width) (p : Plain) (d : ℕ) → T (skipsIn (byImm o w p (regOf d)))
+imm-skips o w p d = register (λ r. skipsIn (byImm o w p r)) (by o) d
   where
-    by : (o : MulOp) → T (everyRegister (λ r. skipsIn (byImm o w r x)))
+    by : (o : MulOp) → T (everyRegister (λ r. skipsIn (byImm o w p r)))
     by Mul = tt
     by Div = tt
     by Mod = tt
 
-by-reg-piece : (o : MulOp) (slot : ℕ) (w : Width) (s d : ℕ) → slot < 2 ^ 32 → Piece (mulDivModReg o slot w (regOf s) (regOf d))
-by-reg-piece o slot w s d h =
-    let a = regOf s in
-    let b = regOf d in
-    found (mulDivModReg o slot w a b) (reg-fine o w slot s d)
-    (wf-append (guard o slot w a b) (computed o w (op (alu MOV W64 a RCX) ∷ []) b) (guard-wf o slot w a b h (reg-lt s) (reg-lt d))
-    (computed-wf o w (op (alu MOV W64 a RCX)) b (reg-lt s, omega arith) (reg-lt d)))
-    (reg-skips o slot w a d)
+-- behind the slot's number, and with it
+module _ (slot : ℕ) (w : Width) (s d : ℕ) (h : slot < 2 ^ 32) where
+  reg-wf : (o : MulOp) → WfCode (mulDivModReg rust o slot w (regOf s) (regOf d))
+  reg-wf o =
+      let a = regOf s in
+      let b = regOf d in
+      wf-append (guard rust o slot w a b) (computed o w (op (alu MOV W64 a RCX) ∷ []) b) (guard-wf o slot w a b h (reg-lt s) (reg-lt d))
+      (computed-wf o w (op (alu MOV W64 a RCX)) b (reg-lt s, omega arith) (reg-lt d))
+
+  behind-piece : (o : MulOp) → Piece (byReg o slot w (regOf s) (regOf d))
+  behind-piece o = found _ (reg-fine o w slot s d) (by o) (reg-skips o slot w (regOf s) d)
+    where
+      by : (o : MulOp) → WfCode (byReg o slot w (regOf s) (regOf d))
+      by Mul = reg-wf Mul
+      by Div = reg-wf Div .1
+      by Mod = reg-wf Mod .1
+
+  by-reg-piece : (m : Mode) (o : MulOp) → Piece (mulDivModReg m o slot w (regOf s) (regOf d))
+  by-reg-piece m Mul = behind-piece Mul
+  by-reg-piece m Div = append (op (loaded m (aluImm MOV W64 RCX slot)) ∷ []) (byReg Div slot w (regOf s) (regOf d)) (number-piece m slot h) (behind-piece Div)
+  by-reg-piece m Mod = append (op (loaded m (aluImm MOV W64 RCX slot)) ∷ []) (byReg Mod slot w (regOf s) (regOf d)) (number-piece m slot h) (behind-piece Mod)
 
 zero-piece : (o : MulOp) (d : ℕ) → Piece (byZero o (regOf d))
 zero-piece Mul d = alu-piece XOR W32 (regOf d) d (reg-lt d)
 zero-piece Div d = alu-piece XOR W32 (regOf d) d (reg-lt d)
 zero-piece Mod d = none
 
-by-imm-piece : (o : MulOp) (w : Width) (d x : ℕ) → x < 2 ^ 32 → Piece (mulDivModImm o w (regOf d) x)
-by-imm-piece o w d x h = by (eqb x 0) refl
+by-imm-piece : (m : Mode) (o : MulOp) (w : Width) (d x : ℕ) → x < 2 ^ 32 → Piece (mulDivModImm m o w (regOf d) x)
+by-imm-piece m o w d x h = by (eqb x 0) refl
   where
-    by : (t : Bool) → eqb x 0 ≡ t → Piece (pick t (byZero o (regOf d)) (computed o w (op (aluImm MOV W64 RCX x) ∷ []) (regOf d)))
+    p : Plain
+    p = loaded m (aluImm MOV W64 RCX x)
+
+    p-wf : WfPlain p
+    p-wf = as-loaded WfPlain m W64 RCX x (omega arith, h) (λ g. (omega arith, h))
+
+    by : (t : Bool) → eqb x 0 ≡ t → Piece (pick t (byZero o (regOf d)) (computed o w (op p ∷ []) (regOf d)))
     by true e = zero-piece o d
-    by false e = found _ (imm-fine o w d x e) (computed-wf o w (op (aluImm MOV W64 RCX x)) (regOf d) (omega arith, h) (reg-lt d)) (imm-skips o w d x)
+    by false e = found _ (imm-fine m o w d x e) (computed-wf o w (op p) (regOf d) p-wf (reg-lt d)) (imm-skips o w p d)
 
 -- what standard mode puts ahead of these, and LE
 lower-piece : (d : ℕ) → Piece (lowerHalf (regOf d))
@@ -248,7 +271,7 @@ jump-piece (jcc c) t = unnoted _ tt (omega arith, tt) tt
 pub slot-piece : (m : Mode) (k : Kind) (slot : ℕ) (i : Insn) (value : ℕ) → Numbers slot i value → Piece (slotCode m k slot i value)
 slot-piece m (LdAbs z) slot i value n = unnoted _ tt (omega (arith, n .imm)) tt
 slot-piece m (LdInd z) slot i value n = unnoted _ tt (omega (arith, n .imm, reg-lt (i .src))) tt
-slot-piece m LdDwImm slot i value n = load-piece (i .dst) value (n .wide)
+slot-piece m LdDwImm slot i value n = load-piece m (i .dst) value (n .wide)
 slot-piece m (LdReg z) slot i value n =
     unnoted _ (register (λ r. fineNotes (plain (op (load z (regOf (i .src)) r (i .off)) ∷ []))) tt (i .dst)) ((reg-base (i .src), (reg-lt (i .dst), n .off)), tt) tt
 slot-piece m (StImm z) slot i value n = unnoted _ tt ((reg-base (i .dst), (n .off, stored-lt z (i .imm))), tt) tt
@@ -262,11 +285,11 @@ slot-piece m (Shift o w Reg) slot i value n =
     unnoted _ (register (λ r. fineNotes (plain (op (alu MOV W64 s RCX) ∷ op (shiftCl (shiftOf o) w r) ∷ []))) tt (i .dst)) ((reg-lt (i .src), omega arith), (reg-lt (i .dst), tt)) tt
 slot-piece m (Neg w) slot i value n = unnoted _ (register (λ r. fineNotes (plain (op (unary NEG w r) ∷ []))) tt (i .dst)) (reg-lt (i .dst), tt) tt
 slot-piece m (MulDivMod o w Imm) slot i value n =
-    append (cleared m o w Imm i) (mulDivModImm o w (regOf (i .dst)) (i .imm)) (cleared-piece m o w Imm i) (by-imm-piece o w (i .dst) (i .imm) (n .imm))
+    append (cleared m o w Imm i) (mulDivModImm m o w (regOf (i .dst)) (i .imm)) (cleared-piece m o w Imm i) (by-imm-piece m o w (i .dst) (i .imm) (n .imm))
 slot-piece m (MulDivMod o w Reg) slot i value n =
-    append (cleared m o w Reg i) (mulDivModReg o slot w (regOf (i .src)) (regOf (i .dst))) (cleared-piece m o w Reg i)
-    (by-reg-piece o slot w (i .src) (i .dst) (n .here))
-slot-piece m (Mov w Imm) slot i value n = imm-piece MOV w (i .dst) (i .imm) (n .imm)
+    append (cleared m o w Reg i) (mulDivModReg m o slot w (regOf (i .src)) (regOf (i .dst))) (cleared-piece m o w Reg i)
+    (by-reg-piece slot w (i .src) (i .dst) (n .here) m o)
+slot-piece m (Mov w Imm) slot i value n = immediate-piece m w (i .dst) (i .imm) (n .imm)
 slot-piece m (Mov w Reg) slot i value n = alu-piece MOV (copyWidth m w) (regOf (i .src)) (i .dst) (reg-lt (i .src))
 slot-piece m Le slot i value n = chosen (m .standard) (truncated (regOf (i .dst)) (i .imm)) [] (truncated-piece (i .dst) (i .imm)) none
 slot-piece m Be slot i value n = swap-piece (i .dst) (i .imm)
@@ -277,7 +300,8 @@ slot-piece m (Jump c w Imm) slot i value n =
 slot-piece m (Jump c w Reg) slot i value n =
     append (op (alu (testOf c) w (regOf (i .src)) (regOf (i .dst))) ∷ []) (jump (jcc (condOf c)) (to (targetOf slot (i .off))) ∷ [])
     (alu-piece (testOf c) w (regOf (i .src)) (i .dst) (reg-lt (i .src))) (jump-piece (jcc (condOf c)) (targetOf slot (i .off)))
-slot-piece m Call slot i value n = chosen (eqb (i .src) 0) (helperCall value) (localCall (targetOf slot (i .imm))) (helper-piece value (n .wide)) (local-piece (targetOf slot (i .imm)))
+slot-piece m Call slot i value n =
+    chosen (eqb (i .src) 0) (helperCall m value) (localCall (targetOf slot (i .imm))) (helper-piece m value (n .wide)) (local-piece (targetOf slot (i .imm)))
 slot-piece m Exit slot i value n = unnoted _ tt (tt, tt) tt
 
 -- Only a division by a register has a jump that is not listed.
@@ -293,14 +317,17 @@ computed-listed o w operand d = register (λ r. allListed (computed o w (op oper
     by Div = tt
     by Mod = tt
 
-imm-listed : (o : MulOp) (w : Width) (d x : ℕ) → T (allListed (mulDivModImm o w (regOf d) x))
-imm-listed o w d x = by o (eqb x 0)
+imm-listed : (m : Mode) (o : MulOp) (w : Width) (d x : ℕ) → T (allListed (mulDivModImm m o w (regOf d) x))
+imm-listed m o w d x = by o (eqb x 0)
   where
-    by : (o : MulOp) (t : Bool) → T (allListed (pick t (byZero o (regOf d)) (computed o w (op (aluImm MOV W64 RCX x) ∷ []) (regOf d))))
+    p : Plain
+    p = loaded m (aluImm MOV W64 RCX x)
+
+    by : (o : MulOp) (t : Bool) → T (allListed (pick t (byZero o (regOf d)) (computed o w (op p ∷ []) (regOf d))))
     by Mul true = tt
     by Div true = tt
     by Mod true = tt
-    by o false = computed-listed o w (aluImm MOV W64 RCX x) d
+    by o false = computed-listed o w p d
 
 -- what standard mode puts ahead has no jump
 cleared-listed : (m : Mode) (o : MulOp) (w : Width) (s : Source) (i : Insn) (c : Code) → T (allListed c) → T (allListed (cleared m o w s i ++ c))
@@ -320,7 +347,7 @@ truncated-listed true d bits = by (eqb bits 16) (eqb bits 32)
     by false false = tt
 
 by-reg-skipping : (m : Mode) (o : MulOp) (w : Width) (slot : ℕ) (i : Insn)
-    → Skipping (MulDivMod o w Reg) (cleared m o w Reg i ++ mulDivModReg o slot w (regOf (i .src)) (regOf (i .dst)))
+    → Skipping (MulDivMod o w Reg) (cleared m o w Reg i ++ mulDivModReg m o slot w (regOf (i .src)) (regOf (i .dst)))
 by-reg-skipping m Mul w slot i = none-skips (cleared-listed m Mul w Reg i _ (computed-listed Mul w (alu MOV W64 (regOf (i .src)) RCX) (i .dst)))
 by-reg-skipping m Div w slot i = divides w refl
 by-reg-skipping m Mod w slot i = none-skips (cleared-listed m Mod w Reg i _ (computed-listed Mod w (alu MOV W64 (regOf (i .src)) RCX) (i .dst)))
@@ -333,10 +360,10 @@ swap-listed d bits = by (eqb bits 16) (eqb bits 32)
     by false true = tt
     by false false = tt
 
-call-listed : (slot : ℕ) (i : Insn) (value : ℕ) → T (allListed (callCode slot i value))
-call-listed slot i value = by (eqb (i .src) 0)
+call-listed : (m : Mode) (slot : ℕ) (i : Insn) (value : ℕ) → T (allListed (callCode m slot i value))
+call-listed m slot i value = by (eqb (i .src) 0)
   where
-    by : (t : Bool) → T (allListed (pick t (helperCall value) (localCall (targetOf slot (i .imm)))))
+    by : (t : Bool) → T (allListed (pick t (helperCall m value) (localCall (targetOf slot (i .imm)))))
     by true = tt
     by false = tt
 
@@ -352,7 +379,7 @@ slot-skipping m (Alu o w Reg) slot i value = none-skips tt
 slot-skipping m (Shift o w Imm) slot i value = none-skips tt
 slot-skipping m (Shift o w Reg) slot i value = none-skips tt
 slot-skipping m (Neg w) slot i value = none-skips tt
-slot-skipping m (MulDivMod o w Imm) slot i value = none-skips (cleared-listed m o w Imm i _ (imm-listed o w (i .dst) (i .imm)))
+slot-skipping m (MulDivMod o w Imm) slot i value = none-skips (cleared-listed m o w Imm i _ (imm-listed m o w (i .dst) (i .imm)))
 slot-skipping m (MulDivMod o w Reg) slot i value = by-reg-skipping m o w slot i
 slot-skipping m (Mov w Imm) slot i value = none-skips tt
 slot-skipping m (Mov w Reg) slot i value = none-skips tt
@@ -360,7 +387,7 @@ slot-skipping m Le slot i value = none-skips (truncated-listed (m .standard) (re
 slot-skipping m Be slot i value = none-skips (swap-listed (regOf (i .dst)) (i .imm))
 slot-skipping m Ja slot i value = none-skips tt
 slot-skipping m (Jump c w s) slot i value = none-skips tt
-slot-skipping m Call slot i value = none-skips (call-listed slot i value)
+slot-skipping m Call slot i value = none-skips (call-listed m slot i value)
 slot-skipping m Exit slot i value = none-skips tt
 
 -- The frame: the same instructions, and their constants.

@@ -7,7 +7,7 @@ use lib.Dec.{eqb}
 use Rattle.base.specs.Pick.{pick}
 use Rattle.base.specs.declared.Width.{Width}
 use Rattle.base.specs.declared.Width.the-variants.{W32, W64}
-use Rattle.x86.specs.Instr.{Instr, op, push, pop, alu, aluImm, shiftImm, shiftCl, unary, movabs, rol16, bswap, load, store, storeImm, jump, jmp, call, jcc}
+use Rattle.x86.specs.Instr.{Instr, op, push, pop, alu, aluImm, shiftImm, shiftCl, unary, movImm, rol16, bswap, load, store, storeImm, jump, jmp, call, jcc}
 use Rattle.x86.specs.Instr.{callReg, ret, Plain, Alu, ADD, OR, AND, SUB, XOR, CMP, MOV, TEST, Cond, JB, JAE, JE, JNE, JBE, JA, JL, JGE, JLE, JG}
 use Rattle.x86.specs.Encode.{len}
 use Rattle.x86.specs.Code.{Dest, near, to}
@@ -59,7 +59,7 @@ source (aluImm o w d i) a = []
 source (shiftImm o w d i) a = []
 source (shiftCl o w d) a = []
 source (unary o w r) a = []
-source (movabs d i) a = []
+source (movImm w d i) a = []
 source (rol16 d i) a = []
 source (bswap w d) a = []
 source (load z b d x) a = []

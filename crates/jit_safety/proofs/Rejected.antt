@@ -10,20 +10,21 @@ use Rattle.base.specs.declared.Width.{Width}
 use Rattle.base.specs.declared.Width.the-variants.{W32, W64}
 use Rattle.ebpf.specs.declared.kind.MulOp.the-variants.{Div}
 use Rattle.x86.specs.Registers.{RAX, RCX, RDX, RBX, RSP, RBP, RSI, RDI, R9, R10, R13, R14, R15}
-use Rattle.x86.specs.Instr.{Instr, Cond, op, push, pop, alu, aluImm, unary, jump, jmp, call, jcc, ret, ADD, SUB, MOV, XOR, TEST, DIV, JE, JNE}
+use Rattle.x86.specs.Instr.{Plain, Instr, Cond, op, push, pop, alu, aluImm, unary, movImm, jump, jmp, call, jcc, ret, ADD, SUB, MOV, XOR, TEST, DIV, JE, JNE}
 use Rattle.x86.specs.Encode.{rex, modrm}
 use Rattle.x86.specs.Decode.{decode, withRex, rexOf, opcode, withModrm, regNumber, lowNumber, number}
 use Rattle.x86.specs.Code.{near, to}
 use Rattle.x86.specs.Lowered.{codeOf}
 use Rattle.jit.specs.Limits.{anchor}
-use Rattle.jit.specs.MulDivMod.{Code, guard, mulDivModReg}
+use Rattle.jit.specs.MulDivMod.{Code, guard, mulDivModImm, mulDivModReg}
 use Rattle.jit.specs.Slots.{localCall}
 use Rattle.jit.specs.Frame.{saves, packetStart, packetEnd, argument, enter, prologue, epilogue}
+use Rattle.jit.specs.Modes.{rust, compact}
 use Rattle.x86_machine.specs.Machine.{State, Input, put, Outcome, running, finished, faulted, unbalanced, divided, astray, rd, result, divides, follow, step, run}
 use Rattle.jit_safety.specs.Demand3.{Staying, StackPointer}
 use Rattle.jit_safety.proofs.Depth.{framed, balanced}
 use Rattle.jit_safety.proofs.Notes.{laid, annotated}
-use Rattle.jit_safety.proofs.Checked.{fineCode, calling}
+use Rattle.jit_safety.proofs.Checked.{fineCode, byImm, calling}
 use Rattle.x86_machine.proofs.WorkedRun.{clear, input}
 use Rattle.jit_safety.proofs.UselessRuns.{never-divided, uneven-return, runs-by}
 
@@ -44,7 +45,7 @@ division w c k clear s =
 abbrev clearEdx : Code
 clearEdx = op (alu XOR W32 RDX RDX) ∷ []
 
-pub division-right : (mulDivModReg Div 0 W32 RDI RSI ≡ division W32 JNE 7 clearEdx RDI) × (fineCode (division W32 JNE 7 clearEdx RDI) ≡ true)
+pub division-right : (mulDivModReg rust Div 0 W32 RDI RSI ≡ division W32 JNE 7 clearEdx RDI) × (fineCode (division W32 JNE 7 clearEdx RDI) ≡ true)
 unfolding rex
 division-right = (refl, refl)
 
@@ -113,11 +114,37 @@ pub division-goes-on : (goesOn 0 0 5 ≡ true) × (goesOn 1 1 5 ≡ true) × (go
 unfolding rex modrm decode withRex rexOf opcode withModrm regNumber lowNumber number rd result divides follow step run
 division-goes-on = (refl, refl, refl, refl)
 
+-- DIV32_IMM r2, compact, by what brings the divisor to RCX: 5 in four bytes is right. 0 is not, nor is 2 ^ 32 in eight bytes, whose lower half,
+-- by which a division of 32 bits divides, is 0.
+abbrev dividedBy : Plain → Code
+dividedBy p = byImm Div W32 p RSI
+
+pub constant-right : (mulDivModImm compact Div W32 RSI 5 ≡ dividedBy (movImm W32 RCX 5)) × (fineCode (dividedBy (movImm W32 RCX 5)) ≡ true)
+constant-right = (refl, refl)
+
+pub constant-0 : fineCode (dividedBy (movImm W32 RCX 0)) ≡ false
+constant-0 = refl
+
+pub constant-above : fineCode (dividedBy (movImm W64 RCX (2 ^ 32))) ≡ false
+constant-above = refl
+
+pub constant-0-raises : (is : List (Instr ℕ)) → Staying (bytesOf (dividedBy (movImm W32 RCX 0))) is → ⊥
+unfolding rex modrm decode withRex rexOf opcode withModrm regNumber lowNumber number rd result divides follow step run
+constant-0-raises is = raises (dividedBy (movImm W32 RCX 0)) 0 0 5 is refl
+
+pub constant-above-raises : (is : List (Instr ℕ)) → Staying (bytesOf (dividedBy (movImm W64 RCX (2 ^ 32)))) is → ⊥
+unfolding rex modrm decode withRex rexOf opcode withModrm regNumber lowNumber number rd result divides follow step run
+constant-above-raises is = raises (dividedBy (movImm W64 RCX (2 ^ 32))) 0 0 5 is refl
+
+pub constant-goes-on : isRunning (run (bytesOf (dividedBy (movImm W32 RCX 5))) (inputs 9 0) (begun 0 0 5)) ≡ true
+unfolding rex modrm decode withRex rexOf opcode withModrm regNumber lowNumber number rd result divides follow step run
+constant-goes-on = refl
+
 -- The guard alone, of a dst above 7: its XOR has a REX, and so three bytes. A skip of 7 goes into the jump.
 abbrev guarded : (skip : ℕ) → Code
 guarded k = op (aluImm MOV W64 RCX 0) ∷ op (alu TEST W32 RDI RDI) ∷ jump (jcc JNE) (near k) ∷ op (alu XOR W32 R9 R9) ∷ jump jmp (to 1) ∷ []
 
-pub guarded-right : (guard Div 0 W32 RDI R9 ≡ guarded 8) × (fineCode (guarded 8) ≡ true)
+pub guarded-right : (guard rust Div 0 W32 RDI R9 ≡ guarded 8) × (fineCode (guarded 8) ≡ true)
 unfolding rex
 guarded-right = (refl, refl)
 

@@ -13,6 +13,7 @@ use Rattle.jit.specs.Limits.{shortestPage, anchor}
 use Rattle.jit.specs.Frame.{saves, argument, enter, prologue, epilogue}
 use Rattle.jit.specs.Translation.{Inputs, yes, stepAt, rest, goodTarget, sizesOf, translationOf}
 use Rattle.jit.specs.JumpTables.{pageFor, kindTable, makerTable}
+use Rattle.jit.specs.Modes.{rust}
 use Rattle.jit_safety.specs.Demand3.{Given, Demand3}
 use Rattle.jit_safety.proofs.Proved.{demand3}
 use Rattle.x86_machine.proofs.WorkedRun.{pageAdding}
@@ -20,7 +21,7 @@ use Rattle.x86_machine.proofs.WorkedRun.{pageAdding}
 abbrev exitAlone : Inputs
 exitAlone =
     record {
-      filter = record { program = 0x95 ∷ replicate 7 0; mode = record { standard = false }; ids = []; addresses = [] };
+      filter = record { program = 0x95 ∷ replicate 7 0; mode = rust; ids = []; addresses = [] };
       flags = record { use_mbuff = false; update_data_ptr = false };
       page = shortestPage;
       locations = 2;

@@ -15,15 +15,16 @@ use Rattle.ebpf.specs.declared.insn.Insn.{Insn}
 use Rattle.ebpf.specs.declared.kind.Source.{Source}
 use Rattle.ebpf.specs.declared.kind.Source.the-variants.{Imm, Reg}
 use Rattle.ebpf.specs.declared.kind.Kind.the-variants.{LdAbs, LdInd, LdDwImm, LdReg, StImm, StReg, Neg, Le, Ja}
-use Rattle.x86.specs.Registers.{RAX, RSI, RDI, R10, R11}
+use Rattle.x86.specs.Registers.{RAX, RBP, RSI, RDI, R10, R11, R13}
 use Rattle.x86.specs.Instr as x86
-use Rattle.x86.specs.Instr.{op, alu, aluImm, shiftImm, shiftCl, unary, movabs, rol16, bswap, load, store, storeImm, jump, jcc, callReg, NEG, ADD, AND, SUB, CMP, MOV, SHR, JG, JA, JNE}
+use Rattle.x86.specs.Instr.{op, alu, aluImm, shiftImm, shiftCl, unary, movImm, rol16, bswap, load, store, storeImm, jump, jcc, callReg, NEG, ADD, AND, SUB, CMP, MOV, SHR, JG, JA, JNE}
 use Rattle.x86.specs.Encode.{encodePlain, rex, modrm, memory, bare, short}
 use Rattle.x86.specs.Code.{to, conditional, plainJump}
 use Rattle.x86.specs.Fill.{blanks}
 use Rattle.jit.specs.MulDivMod.{Code}
-use Rattle.jit.specs.Modes.{rust, standard}
-use Rattle.jit.specs.Slots.{regOf, targetOf, loadImm, aluCode, shiftCode, movCode, swap, jumpCode, callCode, slotCode}
+use Rattle.jit.specs.Modes.{rust, standard, compact}
+use Rattle.jit.specs.Constants.{loadImm, loaded}
+use Rattle.jit.specs.Slots.{regOf, targetOf, aluCode, shiftCode, movCode, swap, jumpCode, callCode, slotCode}
 use Rattle.jit_recording.specs.Emits.{Tables, Emits, HasEntry}
 use Rattle.jit_recording.proofs.EmitsLaws.{entry}
 use Rattle.x86_emit.proofs.Useless.{Stored, meant, Case, _for_, Refuted, refuted}
@@ -80,8 +81,17 @@ handled =
     ∷ blanks (op (alu MOV W64 R10 R11) ∷ op (load S8 R11 RAX 12) ∷ []) for blanks (slotCode rust (LdInd S8) 0 (insn 0 1 0 12) 0)
     ∷ blanks (op (alu ADD W64 RDI R10) ∷ op (load S8 R10 RAX 12) ∷ []) for blanks (slotCode rust (LdInd S8) 0 (insn 0 1 0 12) 0)
     -- emit_load_imm: 2147483648 in four bytes, which would be extended; -1 in eight
-    ∷ plain (aluImm MOV W64 RDI 0x80000000) for encodePlain (loadImm RDI 0x80000000)
-    ∷ plain (movabs RDI 0xffffffffffffffff) for encodePlain (loadImm RDI 0xffffffffffffffff)
+    ∷ plain (aluImm MOV W64 RDI 0x80000000) for encodePlain (loaded rust (loadImm RDI 0x80000000))
+    ∷ plain (movImm W64 RDI 0xffffffffffffffff) for encodePlain (loaded rust (loadImm RDI 0xffffffffffffffff))
+    -- .. and compact: 2 ^ 32 taken as short; 2147483648 with eight bytes; -1 without REX.W; R13 without REX.B, which is RBP
+    ∷ plain (movImm W32 RDI 0) for encodePlain (loaded compact (loadImm RDI 0x100000000))
+    ∷ plain (movImm W64 RDI 0x80000000) for encodePlain (loaded compact (loadImm RDI 0x80000000))
+    ∷ plain (movImm W32 RDI 0xffffffff) for encodePlain (loaded compact (loadImm RDI 0xffffffffffffffff))
+    ∷ plain (movImm W32 RBP 5) for encodePlain (loaded compact (loadImm R13 5))
+    -- emit_mov, compact: MOV64_IMM of -1 and of 2147483648, which are negative, shortened; MOV32_IMM shortened
+    ∷ plain (movImm W32 RDI 0xffffffff) for blanks (movCode compact W64 Imm (insn 1 0 0 0xffffffff))
+    ∷ plain (movImm W32 RDI 0x80000000) for blanks (movCode compact W64 Imm (insn 1 0 0 0x80000000))
+    ∷ plain (movImm W32 RDI 5) for blanks (movCode compact W32 Imm (insn 1 0 0 5))
     -- emit_ld_dw_imm: the lower half alone; into src
     ∷ plain (aluImm MOV W64 RDI 7) for blanks (slotCode rust LdDwImm 0 (insn 1 0 0 7) 0x100000007)
     ∷ plain (aluImm MOV W64 RAX 7) for blanks (slotCode rust LdDwImm 0 (insn 1 0 0 7) 7)
@@ -125,13 +135,13 @@ module _ {c c′ : List ℕ} {t t′ : Tables} {at j at′ j′ : ℕ} where
   )
 
   -- emit_call of a helper: its fourth argument left where it is, its call listed
-  pub helper : (slot : ℕ) → Emits c c′ t t′ at j at′ j′ slot (callCode slot (insn 0 0 0 3) 7)
+  pub helper : (slot : ℕ) → Emits c c′ t t′ at j at′ j′ slot (callCode rust slot (insn 0 0 0 3) 7)
       → (Stored c c′ at at′ (blanks (op (aluImm MOV W64 RAX 7) ∷ callReg RAX ∷ [])) → ⊥) × (j′ ≡ j + 1 → ⊥)
   unfolding rex modrm loadImm
   helper slot e = (λ s. omega (arith, ap join (meant (e .wrote) s)), λ z. omega (arith, z, e .targets .next))
 
   -- and within the program: a target by off, which is 0 here, a field that is the slot's end, registers that are not restored
-  pub local : (slot : ℕ) → Emits c c′ t t′ at j at′ j′ slot (callCode slot (insn 0 1 0 3) 0) → HasEntry t j
+  pub local : (slot : ℕ) → Emits c c′ t t′ at j at′ j′ slot (callCode rust slot (insn 0 1 0 3) 0) → HasEntry t j
       → (getD (t′ .targets) j 0 ≡ (slot + 1) % 2 ^ 32 → ⊥) × ((getD (t′ .fields) j 0 ≡ at′ - 4 → ⊥) × (at′ ≡ at + 12 → ⊥))
   unfolding rex modrm targetOf
   local slot e h =
@@ -152,6 +162,6 @@ module _ {c c′ : List ℕ} {t t′ : Tables} {at j at′ j′ : ℕ} where
       → (getD (t′ .kinds) j 0 ≡ plainJump → ⊥) × (getD (t′ .makers) j 0 ≡ slot + 1 → ⊥)
   jump-named slot e h = (λ z. omega (arith, z, entry (e .kinds) (h .kind)), λ z. omega (arith, z, entry (e .makers) (h .maker)))
 
-  pub local-named : (slot : ℕ) → Emits c c′ t t′ at j at′ j′ slot (callCode slot (insn 0 1 0 3) 0) → HasEntry t j
+  pub local-named : (slot : ℕ) → Emits c c′ t t′ at j at′ j′ slot (callCode rust slot (insn 0 1 0 3) 0) → HasEntry t j
       → (getD (t′ .kinds) j 0 ≡ plainJump → ⊥) × (getD (t′ .makers) j 0 ≡ slot + 1 → ⊥)
   local-named slot e h = (λ z. omega (arith, z, entry (e .kinds) (h .kind)), λ z. omega (arith, z, entry (e .makers) (h .maker)))

@@ -2,11 +2,14 @@
 ghost use mathlib.Core.Path.{_≡_};
 ghost use Prim.Native.Nat.{_<_};
 ghost use Rattle.ebpf.specs.Kinds.{aluOf, shiftOf};
+ghost use Rattle.base.specs.declared.Width.the-variants.{W64};
+ghost use Rattle.ebpf.specs.declared.kind.Source.the-variants.{Imm};
 ghost use Rattle.ebpf.specs.declared.kind.Kind.the-variants.{Neg, Le};
 ghost use Rattle.x86.specs.Fill.{blanks};
 ghost use Rattle.x86.specs.Encode.{aluOpcode, aluExtension, shiftExtension, encodePlain};
 ghost use Rattle.x86.specs.Instr as x86;
 ghost use Rattle.x86_emit.specs.Lent.{Wrote, Fits, FitAll};
+ghost use Rattle.jit.specs.Compact.{compactOff};
 ghost use Rattle.jit.specs.Modes.{rust};
 ghost use Rattle.jit.specs.Slots as jit;
 ghost use Rattle.jit.specs.Slots.{slotCode, aluCode, shiftCode, movCode, truncated, swap, regOf};
@@ -15,6 +18,7 @@ use base::Width;
 use ebpf::insn::Insn;
 use ebpf::kind::Source;
 use jit::Mode;
+use jit_recording::constant;
 use jit_recording::mode;
 use jit_recording::register;
 use x86::ADD;
@@ -201,6 +205,15 @@ fn emit_copy(code: &mut [u8], at: Position, mode: Mode, width: Width, src: u8, d
     }
 }
 
+// MOV64_IMM: a constant is loaded.
+pub fn emit_mov64_imm(code: &mut [u8], at: Position, mode: Mode, i: Insn) -> Position
+    requires { ⌜ Fits code at × (i .dst < 11) ⌝ }
+    ensures { λ r. ⌜ Wrote code at r (blanks (movCode mode W64 Imm i)) ⌝ }
+{
+    constant::emit_load_signed(code, at, mode, register::map_register(i.dst), i.imm)
+}
+
+// Every other MOV, and MOV64_IMM without `compact`.
 pub fn emit_mov(
     code: &mut [u8],
     at: Position,
@@ -210,7 +223,7 @@ pub fn emit_mov(
     i: Insn,
 ) -> Position
     requires { ⌜ Fits code at × ((i .dst < 11) × (i .src < 11)) ⌝ }
-    ensures { λ r. ⌜ Wrote code at r (blanks (movCode mode width source i)) ⌝ }
+    ensures { λ r. ⌜ Wrote code at r (blanks (movCode (compactOff mode) width source i)) ⌝ }
 {
     let dst = register::map_register(i.dst);
     match source {

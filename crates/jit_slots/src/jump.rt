@@ -12,7 +12,6 @@ ghost use Rattle.jit.specs.Modes.{rust};
 ghost use Rattle.jit.specs.Slots.{slotCode, condOf, testOf, compare, jumpCode, helperCall, localCall, callCode};
 ghost use Rattle.jit_slots.specs.JumpParts.{callSaves, callRestores};
 ghost use Rattle.jit_recording.specs.Lent.{Emits, Room};
-use crate::load;
 use base::Position;
 use base::Slot;
 use base::Width;
@@ -20,6 +19,8 @@ use ebpf::constants::BPF_ALU_OP_MASK;
 use ebpf::constants::BPF_JSET;
 use ebpf::insn::Insn;
 use ebpf::kind::Source;
+use jit::Mode;
+use jit_recording::constant;
 use jit_recording::emission;
 use jit_recording::emission::Emission;
 use jit_recording::register;
@@ -166,12 +167,12 @@ pub fn emit_jump(
 }
 
 // RCX is kept free for shifts, so the fourth argument is copied to where the machine's calls have it.
-fn emit_helper_call(code: &mut [u8], at: Position, address: u64) -> Position
-    requires { ⌜ FitAll code at (helperCall address) ⌝ }
-    ensures { λ r. ⌜ Wrote code at r (blanks (helperCall address)) ⌝ }
+fn emit_helper_call(code: &mut [u8], at: Position, mode: Mode, address: u64) -> Position
+    requires { ⌜ FitAll code at (helperCall mode address) ⌝ }
+    ensures { λ r. ⌜ Wrote code at r (blanks (helperCall mode address)) ⌝ }
 {
     let copied = alu::emit_alu(code, at, Width::W64, MOV, R9, RCX);
-    let loaded = load::emit_load_imm(code, copied, RAX, address);
+    let loaded = constant::emit_load_imm(code, copied, mode, RAX, address);
     jump::emit_call_rax(code, loaded)
 }
 
@@ -237,16 +238,17 @@ pub fn emit_call(
     kinds: &mut [u32],
     makers: &mut [u32],
     e: Emission,
+    mode: Mode,
     slot: Slot,
     i: Insn,
     value: u64,
 ) -> Emission
-    requires { ⌜ Room code fields targets kinds makers e (callCode (slot .number) i value) ⌝ }
+    requires { ⌜ Room code fields targets kinds makers e (callCode mode (slot .number) i value) ⌝ }
     requires { ⌜ slot .number < 2 ^ 16 ⌝ }
-    ensures { λ r. ⌜ Emits code fields targets kinds makers e r slot (callCode (slot .number) i value) ⌝ }
+    ensures { λ r. ⌜ Emits code fields targets kinds makers e r slot (callCode mode (slot .number) i value) ⌝ }
 {
     if i.src == 0 {
-        let at = emit_helper_call(code, e.at, value);
+        let at = emit_helper_call(code, e.at, mode, value);
         return Emission {
             at: at,
             jumps: e.jumps,

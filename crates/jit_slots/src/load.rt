@@ -2,18 +2,17 @@
 ghost use Prim.Native.Nat.{_<_};
 ghost use Rattle.ebpf.specs.declared.kind.Kind.the-variants.{LdAbs, LdInd, LdDwImm, LdReg, StImm, StReg};
 ghost use Rattle.x86.specs.Fill.{blanks};
-ghost use Rattle.x86.specs.Encode.{encodePlain};
 ghost use Rattle.x86_emit.specs.Lent.{Wrote, Fits, FitAll};
 ghost use Rattle.jit.specs.Modes.{rust};
-ghost use Rattle.jit.specs.Slots.{slotCode, loadImm};
+ghost use Rattle.jit.specs.Slots.{slotCode};
 use base::Position;
 use base::Size;
 use base::Width;
 use ebpf::insn::Insn;
+use jit::Mode;
+use jit_recording::constant;
 use jit_recording::register;
 use x86::ADD;
-use x86::GROUP11;
-use x86::GROUP11_MOV;
 use x86::MOV;
 use x86::R10;
 use x86::R11;
@@ -39,30 +38,11 @@ pub fn emit_ld_ind(code: &mut [u8], at: Position, size: Size, i: Insn) -> Positi
     memory::emit_load(code, added, size, R11, RAX, i.imm)
 }
 
-// A constant: four bytes where it is in the signed 32-bit range, else eight.
-pub fn emit_load_imm(code: &mut [u8], at: Position, dst: u8, value: u64) -> Position
-    requires { ⌜ Fits code at × (dst < 16) ⌝ }
-    ensures { λ r. ⌜ Wrote code at r (encodePlain (loadImm dst value)) ⌝ }
-{
-    if std::num::wrapping_add_u64(value, 0x8000_0000) < 0x1_0000_0000 {
-        return alu::emit_alu_imm32(
-            code,
-            at,
-            Width::W64,
-            GROUP11,
-            GROUP11_MOV,
-            dst,
-            (value % 0x1_0000_0000) as u32,
-        );
-    }
-    alu::emit_movabs(code, at, dst, value)
-}
-
-pub fn emit_ld_dw_imm(code: &mut [u8], at: Position, i: Insn, value: u64) -> Position
+pub fn emit_ld_dw_imm(code: &mut [u8], at: Position, mode: Mode, i: Insn, value: u64) -> Position
     requires { ⌜ Fits code at × (i .dst < 11) ⌝ }
-    ensures { λ r. ⌜ Wrote code at r (blanks (slotCode rust LdDwImm 0 i value)) ⌝ }
+    ensures { λ r. ⌜ Wrote code at r (blanks (slotCode mode LdDwImm 0 i value)) ⌝ }
 {
-    emit_load_imm(code, at, register::map_register(i.dst), value)
+    constant::emit_load_imm(code, at, mode, register::map_register(i.dst), value)
 }
 
 pub fn emit_ld_reg(code: &mut [u8], at: Position, size: Size, i: Insn) -> Position

@@ -11,6 +11,7 @@ use Rattle.jit.specs.Translation.{Inputs, slotsOf, Outcome, no, yes, translatio
 use Rattle.x86.specs.Encode.{isa}
 use Rattle.jit.specs.JumpTables.{pageFor, kindTable, makerTable, kindsIn, makersIn}
 use Rattle.jit.proofs.ModesLaws.{modes}
+use Rattle.jit.proofs.CompactLaws.{compact}
 use Rattle.jit_safety.specs.Demand3.{Given, Demand3}
 use Rattle.jit_safety.proofs.Program.{parts}
 use Rattle.jit_safety.proofs.Proved.{demand3}
@@ -112,4 +113,5 @@ theorem =
           let m = p .names .makers ∙ sym (q .names .makers) in
           (one .0, same after other (one .1) (one .2) (one .3) (one .4) k m);
       modes = modes;
+      compact = compact;
     }

@@ -3,14 +3,15 @@
 --   translationOf   which code, which tables or which refusal belong to what is asked      crates/jit/specs/Translation.antt
 --   kindsIn,        what each jump is, and which slot made it                              crates/jit/specs/JumpTables.antt
 --   makersIn
---   Modes           what standard mode leaves as it is                                     crates/jit/specs/Modes.antt
+--   Modes,          what standard mode leaves as it is, and what compact constants change  crates/jit/specs/Modes.antt, Compact.antt
+--   Compact
 --   Translated,     how the answer and what was lent hold an outcome                       crates/jit_translate/specs/Translated.antt
 --   Named
 --   Machine         the processor: what an instruction does, what a run is                 crates/x86_machine/specs/Machine.antt
 --   Demand3         reading, landing, staying, the stack pointer, over that processor      crates/jit_safety/specs/Demand3.antt
 --
 -- `Promise` says the three demands of one call. `Theorem` says that every call keeps it, and that it can always be kept, in one way only.
--- proofs/Proved.antt proves `Theorem`; `ndakoleem_translate_3`, which a loader calls, has `Promise` in its contract and asks nothing.
+-- proofs/Proved.antt proves `Theorem`; `ndakoleem_translate_4`, which a loader calls, has `Promise` in its contract and asks nothing.
 -- That `translate` ends, and touches only what it was lent, Rattle proves of every function.
 use mathlib.Core.Path.{_≡_}
 use mathlib.Core.List.{List}
@@ -19,6 +20,7 @@ use lib.ListN.{take}
 use Rattle.jit.specs.declared.Refusal.{Refusal}
 use Rattle.jit.specs.Translation.{Inputs, slotsOf, no, translationOf}
 use Rattle.jit.specs.Modes.{Modes}
+use Rattle.jit.specs.Compact.{Compact}
 use Rattle.x86_machine.specs.Machine.{State, Input, divided, run}
 use Rattle.jit_safety.specs.Demand3.{Given, Begins, Demand3}
 use Rattle.jit_translate.specs.Translated.{Translated, Named}
@@ -87,5 +89,7 @@ pub record Theorem : Type 0 where
   -- .. and one only
   pub only : (x : Inputs) (before after other : Buffers) (r s : Answer) → Promise x before after r → Promise x before other s
       → (r ≡ s) × (after ≡ other)
-  -- the mode changes the code of three kinds of slots, and a program without them has the Rust's answer in both
+  -- standard mode changes the code of three kinds of slots, and a program without them has the same answer with it and without
   pub modes : Modes
+  -- compact constants are all that their flag changes; what was accepted is accepted, and 13 comes later or not at all
+  pub compact : Compact

@@ -13,6 +13,7 @@ ghost use Rattle.jit.specs.Lent.{filterIn, filterOf};
 ghost use Rattle.jit.specs.Passes.{Paired};
 use base::Position;
 use base::Slot;
+use ebpf::constants::MOV64_IMM;
 use ebpf::insn::insn_at;
 use ebpf::kind;
 use ebpf::kind::mul_of;
@@ -75,14 +76,19 @@ fn emit_plain(
             insn_at(prog, slot),
         ),
         kind::KIND_NEG => alu::emit_neg(code, at, width_of(opc), insn_at(prog, slot)),
-        kind::KIND_MOV => alu::emit_mov(
-            code,
-            at,
-            mode,
-            width_of(opc),
-            source_of(opc),
-            insn_at(prog, slot),
-        ),
+        kind::KIND_MOV => {
+            if opc == MOV64_IMM {
+                return alu::emit_mov64_imm(code, at, mode, insn_at(prog, slot));
+            }
+            alu::emit_mov(
+                code,
+                at,
+                mode,
+                width_of(opc),
+                source_of(opc),
+                insn_at(prog, slot),
+            )
+        }
         kind::KIND_BE => alu::emit_be(code, at, insn_at(prog, slot)),
         kind::KIND_LE => alu::emit_le(code, at, mode, insn_at(prog, slot)),
         kind::KIND_EXIT => x86_emit::jump::emit_ret(code, at),
@@ -114,7 +120,7 @@ pub fn emit_slot(
         kind::KIND_LD_DW_IMM => {
             let i = insn_at(prog, slot);
             let value = value_in(operand::wide_operand(prog, slot, i));
-            emission::onward(e, load::emit_ld_dw_imm(code, e.at, i, value))
+            emission::onward(e, load::emit_ld_dw_imm(code, e.at, mode, i, value))
         }
         kind::KIND_MULDIVMOD => muldivmod::emit_muldivmod(
             code,
@@ -155,7 +161,18 @@ pub fn emit_slot(
         kind::KIND_CALL => {
             let i = insn_at(prog, slot);
             let value = value_in(operand::call_operand(ids, addresses, slot, i));
-            jump::emit_call(code, fields, targets, kinds, makers, e, slot, i, value)
+            jump::emit_call(
+                code,
+                fields,
+                targets,
+                kinds,
+                makers,
+                e,
+                mode,
+                slot,
+                i,
+                value,
+            )
         }
         _ => emission::onward(e, emit_plain(code, e.at, mode, number, opc, prog, slot)),
     }

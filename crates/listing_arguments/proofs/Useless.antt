@@ -6,10 +6,10 @@ use Rattle.bytes.specs.Bytes.{indexOf, indexAfter}
 use Rattle.text.specs.Text.{ascii}
 use Rattle.listing_arguments.specs.declared.Number.the-variants.{Is}
 use Rattle.listing_arguments.specs.declared.Helper.the-variants.{Listed}
-use Rattle.listing_arguments.specs.declared.Word.the-variants.{File, Help}
+use Rattle.listing_arguments.specs.declared.Word.the-variants.{File, Help, Standard}
 use Rattle.listing_arguments.specs.Arguments.{wordOf, digitOf, grown, digits, numberOf, addressOf, helperOf}
 
--- word_of: an option that is not known taken for a file; an option known by its first letters
+-- word_of: an option that is not known taken for a file; an option known by its first letters; one flag of the mode taken for the other
 pub option-a-file : wordOf (ascii "--hlep") ≡ File → ⊥
 unfolding wordOf
 option-a-file e = let z : _≡_ {A = ℕ} 0 1 = cc in omega arith
@@ -17,6 +17,10 @@ option-a-file e = let z : _≡_ {A = ℕ} 0 1 = cc in omega arith
 pub by-first-letters : wordOf (ascii "--helpless") ≡ Help → ⊥
 unfolding wordOf
 by-first-letters e = let z : _≡_ {A = ℕ} 0 1 = cc in omega arith
+
+pub compact-as-standard : wordOf (ascii "--compact") ≡ Standard → ⊥
+unfolding wordOf
+compact-as-standard e = let z : _≡_ {A = ℕ} 0 1 = cc in omega arith
 
 -- number_of: hexadecimal read as decimal; a number that wraps; no digit at all, as 0
 pub hexadecimal-as-decimal : numberOf (ascii "0x10") ≡ Is 10 → ⊥

@@ -1,4 +1,4 @@
--- The words that a listing is asked for with: which option a word is, a number, a helper.
+-- The words that a listing is asked for with: which option a word is and what it adds to the mode, a number, a helper.
 use mathlib.Core.Bool.{Bool, true, false, _&&_}
 use mathlib.Core.List.{List, [], _∷_}
 use Prim.Native.Nat.{ℕ, _+_, _*_, _-_, _^_}
@@ -6,13 +6,14 @@ use lib.Dec.{ltb, leb, eqb}
 use lib.ListN.{length, getD, take, drop}
 use Rattle.bytes.specs.Bytes.{indexOf}
 use Rattle.base.specs.Pick.{pick}
+use Rattle.jit.specs.declared.Mode.{Mode}
 use Rattle.text.specs.Text.{ascii}
 use Rattle.listing_arguments.specs.declared.Number.{Number}
 use Rattle.listing_arguments.specs.declared.Number.the-variants.{Is, Not}
 use Rattle.listing_arguments.specs.declared.Helper.{Helper}
 use Rattle.listing_arguments.specs.declared.Helper.the-variants.{Listed, Unclear}
 use Rattle.listing_arguments.specs.declared.Word.{Word}
-use Rattle.listing_arguments.specs.declared.Word.the-variants.{Mbuff, UpdateDataPtr, Standard, PageSize, HelperNext, Help, File, Unknown}
+use Rattle.listing_arguments.specs.declared.Word.the-variants.{Mbuff, UpdateDataPtr, Standard, Compact, PageSize, HelperNext, Help, File, Unknown}
 
 -- whether two texts are the same
 abbrev pub equal : List ℕ → List ℕ → Bool
@@ -27,8 +28,21 @@ wordOf w =
     pick (equal w (ascii "--mbuff")) Mbuff
     (pick (equal w (ascii "--update-data-ptr")) UpdateDataPtr
     (pick (equal w (ascii "--standard")) Standard
+    (pick (equal w (ascii "--compact")) Compact
     (pick (equal w (ascii "--page")) PageSize
-    (pick (equal w (ascii "--helper")) HelperNext (pick (equal w (ascii "--help")) Help (pick (eqb (getD w 0 0x2d) 0x2d) Unknown File))))))
+    (pick (equal w (ascii "--helper")) HelperNext (pick (equal w (ascii "--help")) Help (pick (eqb (getD w 0 0x2d) 0x2d) Unknown File)))))))
+
+-- the mode with what a word asks for
+abbrev pub modeWith : Mode → Word → Mode
+modeWith m Mbuff = m
+modeWith m UpdateDataPtr = m
+modeWith m Standard = record { standard = true; compact = m .compact }
+modeWith m Compact = record { standard = m .standard; compact = true }
+modeWith m PageSize = m
+modeWith m HelperNext = m
+modeWith m Help = m
+modeWith m File = m
+modeWith m Unknown = m
 
 -- what a character counts as a digit, `0` to `9`, `A` to `F` and `a` to `f`; 16 where it is none
 unfoldable pub digitOf : ℕ → ℕ

@@ -1,15 +1,17 @@
-// The words that a listing is asked for with, read: which option a word is, a number, a helper. What a program does with them stands in
-// program_listing.
+// The words that a listing and a translation are asked for with, read: which option a word is and what it adds to the mode, a number, a
+// helper. What a program does with them stands in program_listing and program_translate.
 ghost use mathlib.Core.Path.{_≡_};
 ghost use Prim.Native.Nat.{_≤_, _<_};
-ghost use Rattle.listing_arguments.specs.Arguments.{equal, wordOf, digitOf, numberOf, addressOf, helperOf};
+ghost use Rattle.listing_arguments.specs.Arguments.{equal, wordOf, modeWith, digitOf, numberOf, addressOf, helperOf};
 ghost use Rattle.listing_arguments.specs.Arguments.{digits as Arguments·digits};
 ghost use Rattle.listing_arguments.specs.Arguments.{grown as Arguments·grown};
+use jit::Mode;
 
 pub enum Word {
     Mbuff,
     UpdateDataPtr,
     Standard,
+    Compact,
     // The page's size is the next word.
     PageSize,
     // A helper is the next word.
@@ -52,6 +54,9 @@ pub fn word_of(word: &[u8]) -> Word
     if is(word, b"--standard") {
         return Word::Standard;
     }
+    if is(word, b"--compact") {
+        return Word::Compact;
+    }
     if is(word, b"--page") {
         return Word::PageSize;
     }
@@ -68,6 +73,29 @@ pub fn word_of(word: &[u8]) -> Word
         return Word::Unknown;
     }
     Word::File
+}
+
+// The mode with what a word asks for: most ask for nothing of it.
+pub fn mode_with(mode: Mode, word: Word) -> Mode
+    ensures { λ r. ⌜ r ≡ modeWith mode word ⌝ }
+{
+    match word {
+        Word::Mbuff => mode,
+        Word::UpdateDataPtr => mode,
+        Word::Standard => Mode {
+            standard: true,
+            compact: mode.compact,
+        },
+        Word::Compact => Mode {
+            standard: mode.standard,
+            compact: true,
+        },
+        Word::PageSize => mode,
+        Word::HelperNext => mode,
+        Word::Help => mode,
+        Word::File => mode,
+        Word::Unknown => mode,
+    }
 }
 
 fn digit_of(c: u8) -> u64

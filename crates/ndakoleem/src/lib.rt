@@ -20,11 +20,12 @@ pub struct Translation {
 // The four numbers of `translate`'s answer; what is lent is left as `translate` leaves it (specs/Exported.antt). The number in the name rises
 // with every change of the parameters: a caller that was built for others does not link.
 #[no_mangle]
-pub extern "C" fn ndakoleem_translate_3(
+pub extern "C" fn ndakoleem_translate_4(
     program: &[u8],
     use_mbuff: bool,
     update_data_ptr: bool,
     standard: bool,
+    compact: bool,
     ids: &[u32],
     addresses: &[u64],
     code: &mut [u8],
@@ -34,14 +35,17 @@ pub extern "C" fn ndakoleem_translate_3(
     kinds: &mut [u32],
     makers: &mut [u32],
 ) -> Translation
-    ensures { λ r. ⌜ Exported (asked program (flagged «use_mbuff» «update_data_ptr») (inMode «standard») ids addresses
+    ensures { λ r. ⌜ Exported (asked program (flagged «use_mbuff» «update_data_ptr») (inMode «standard» «compact») ids addresses
         code locations fields targets kinds makers) code locations fields targets kinds makers r ⌝ }
 {
     let flags = Flags {
         use_mbuff: use_mbuff,
         update_data_ptr: update_data_ptr,
     };
-    let mode = Mode { standard: standard };
+    let mode = Mode {
+        standard: standard,
+        compact: compact,
+    };
     match translate(
         program,
         flags,

@@ -9,17 +9,16 @@ mod options;
 
 use cases_bytes::stream;
 use cases_bytes::stream::Window;
-use jit::Flags;
 use jit::LONGEST_PAGE;
 use jit::LONGEST_PROGRAM;
 use jit::MOST_HELPERS;
 use jit::MOST_SLOTS;
-use jit::Mode;
 use jit::SHORTEST_PAGE;
 use libc::STDERR_FILENO;
 use libc::STDIN_FILENO;
 use libc::STDOUT_FILENO;
 use listing_arguments::SOME_ADDRESS;
+use listing_saving::list_saving;
 use listing_table::list_filter;
 use options::LARGEST;
 use options::Options;
@@ -39,6 +38,21 @@ fn say(form: &[u8], limits: &[u64]) {
     io::write_all(STDOUT_FILENO, &line[..end]);
 }
 
+fn explain_flags() {
+    io::write_all(
+        STDOUT_FILENO,
+        b"  --mbuff              the flag use_mbuff\n  --update-data-ptr    the flag update_data_ptr\n",
+    );
+    io::write_all(
+        STDOUT_FILENO,
+        b"  --standard           standard mode: MOV32_REG, MOD32 by zero and LE as in RFC 9669, all else as in rbpf\n",
+    );
+    io::write_all(
+        STDOUT_FILENO,
+        b"  --compact            compact constants: 0 to 4294967295 in five or six bytes; the last line says what that saves\n",
+    );
+}
+
 fn explain() {
     io::write_all(
         STDOUT_FILENO,
@@ -48,14 +62,7 @@ fn explain() {
         STDOUT_FILENO,
         b"A refused filter shows its slots up to the refusal; the reason goes to standard error.\n",
     );
-    io::write_all(
-        STDOUT_FILENO,
-        b"  --mbuff              the flag use_mbuff\n  --update-data-ptr    the flag update_data_ptr\n",
-    );
-    io::write_all(
-        STDOUT_FILENO,
-        b"  --standard           standard mode: MOV32_REG, MOD32 by zero and LE as in RFC 9669, all else as in rbpf\n",
-    );
+    explain_flags();
     say(
         b"  --page N             a page of N bytes, # to # (# unless said)\n",
         &[
@@ -123,13 +130,8 @@ fn read_program(file: usize, input: &mut [u8]) -> Window
 fn list_lent(program: &[u8], options: Options, ids: &[u32], addresses: &[u64])
     requires { ⌜ options .page ≤ longestPage + 1 ⌝ }
 {
-    let flags = Flags {
-        use_mbuff: options.use_mbuff,
-        update_data_ptr: options.update_data_ptr,
-    };
-    let mode = Mode {
-        standard: options.standard,
-    };
+    let flags = options::flags_of(options);
+    let mode = options.mode;
     let size = options.page;
     let mut page = [0u8; LARGEST];
     let mut locations = [0u32; TABLE];
@@ -137,7 +139,7 @@ fn list_lent(program: &[u8], options: Options, ids: &[u32], addresses: &[u64])
     let mut targets = [0u32; TABLE];
     let mut kinds = [0u32; TABLE];
     let mut makers = [0u32; TABLE];
-    list_filter(
+    let answer = list_filter(
         program,
         flags,
         mode,
@@ -149,6 +151,16 @@ fn list_lent(program: &[u8], options: Options, ids: &[u32], addresses: &[u64])
         &mut targets,
         &mut kinds,
         &mut makers,
+        STDERR_FILENO,
+    );
+    list_saving(
+        program,
+        flags,
+        mode,
+        ids,
+        addresses,
+        size,
+        answer,
         STDERR_FILENO,
     );
 }

@@ -3,14 +3,17 @@ ghost use mathlib.Core.Path.{_≡_};
 ghost use Prim.Native.Nat.{_+_, _≤_};
 ghost use Rattle.jit.specs.Limits.{longestPage};
 ghost use Rattle.program_listing.specs.Options.{Held};
+use jit::Flags;
 use jit::LONGEST_PAGE;
 use jit::MOST_HELPERS;
+use jit::Mode;
 use jit::SHORTEST_PAGE;
 use libc::STDERR_FILENO;
 use listing_arguments::Helper;
 use listing_arguments::Number;
 use listing_arguments::Word;
 use listing_arguments::helper_of;
+use listing_arguments::mode_with;
 use listing_arguments::number_of;
 use listing_arguments::word_of;
 use text::form::put_form;
@@ -24,7 +27,7 @@ const WORD: usize = 32;
 pub struct Options {
     pub use_mbuff: bool,
     pub update_data_ptr: bool,
-    pub standard: bool,
+    pub mode: Mode,
     pub page: usize,
     // Which argument is the file's name; 0 where there is none.
     pub file: usize,
@@ -35,6 +38,15 @@ pub struct Options {
     // The word before this one was --page, or --helper.
     page_next: bool,
     helper_next: bool,
+}
+
+pub fn flags_of(options: Options) -> Flags
+    ensures { λ r. ⌜ (r .«use_mbuff» ≡ options .«use_mbuff») × (r .«update_data_ptr» ≡ options .«update_data_ptr») ⌝ }
+{
+    Flags {
+        use_mbuff: options.use_mbuff,
+        update_data_ptr: options.update_data_ptr,
+    }
 }
 
 fn complain(what: &[u8], word: &[u8]) {
@@ -137,6 +149,15 @@ fn with_file(options: Options, index: usize, word: &[u8]) -> Options
     changed
 }
 
+fn with_mode(options: Options, word: Word) -> Options
+    ensures { λ r. ⌜ (r .page ≡ options .page) × (r .helpers ≡ options .helpers) ⌝ }
+{
+    let mode = mode_with(options.mode, word);
+    let mut changed = options;
+    changed.mode = mode;
+    changed
+}
+
 // A word that is no number and no helper.
 fn with_option(options: Options, index: usize, word: &[u8]) -> Options
     ensures { λ r. ⌜ (r .page ≡ options .page) × (r .helpers ≡ options .helpers) ⌝ }
@@ -151,10 +172,8 @@ fn with_option(options: Options, index: usize, word: &[u8]) -> Options
             changed.update_data_ptr = true;
             changed
         }
-        Word::Standard => {
-            changed.standard = true;
-            changed
-        }
+        Word::Standard => with_mode(options, Word::Standard),
+        Word::Compact => with_mode(options, Word::Compact),
         Word::PageSize => {
             changed.page_next = true;
             changed
@@ -226,7 +245,10 @@ pub fn read_options(ids: &mut [u32], addresses: &mut [u64]) -> Options
     let mut options = Options {
         use_mbuff: false,
         update_data_ptr: false,
-        standard: false,
+        mode: Mode {
+            standard: false,
+            compact: false,
+        },
         page: SHORTEST_PAGE,
         file: 0,
         helpers: 0,

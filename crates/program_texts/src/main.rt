@@ -1,8 +1,9 @@
 // Reads cases from standard input, as the program `answers` does, and writes to standard output what the programs say of each: its listing,
 // with the reason of a refusal, and the line by which `translate` tells a refusal. What it writes of its stored cases is compared in the
 // gate: every form of a slot, of an instruction and of a refusal.
-ghost use Prim.Native.Nat.{_≤_};
+ghost use Prim.Native.Nat.{_+_, _≤_};
 ghost use lib.ListN.{length};
+ghost use Rattle.jit.specs.Limits.{longestPage};
 use cases_bytes::answer::put_refusal_line;
 use cases_bytes::limits;
 use cases_bytes::parts;
@@ -12,12 +13,11 @@ use cases_bytes::stream::Window;
 use cases_bytes::turn;
 use cases_bytes::turn::Turn;
 use cases_problems::Problem;
-use jit::Flags;
-use jit::Mode;
 use jit::Refusal;
 use jit_translate::translate::Answer;
 use libc::STDIN_FILENO;
 use libc::STDOUT_FILENO;
+use listing_saving::list_saving;
 use listing_table::list_filter;
 use text::form::put_form;
 
@@ -55,9 +55,9 @@ fn least(a: usize, b: usize) -> usize
     if a < b { a } else { b }
 }
 
-// Of a longer page or table than there is the whole is lent, which the translator cannot tell.
-fn show_case(body: &[u8], case: Case, ids: &[u32], addresses: &[u64])
-    requires { ⌜ (case .ids ≤ length (now ids)) × ((case .addresses ≤ length (now addresses)) × (case .program ≤ length (now body))) ⌝ }
+// Of a longer table than there is the whole is lent, which the translator cannot tell.
+fn list_lent(program: &[u8], case: Case, ids: &[u32], addresses: &[u64], size: usize) -> Answer
+    requires { ⌜ size ≤ longestPage + 1 ⌝ }
 {
     let mut page = [0u8; limits::PAGE];
     let mut locations = [0u32; limits::TABLE];
@@ -65,37 +65,53 @@ fn show_case(body: &[u8], case: Case, ids: &[u32], addresses: &[u64])
     let mut targets = [0u32; limits::TABLE];
     let mut kinds = [0u32; limits::TABLE];
     let mut makers = [0u32; limits::TABLE];
-    let flags = Flags {
-        use_mbuff: case.use_mbuff,
-        update_data_ptr: case.update_data_ptr,
-    };
-    let mode = Mode {
-        standard: case.standard,
-    };
-    let program = case.program;
-    let i = case.ids;
-    let a = case.addresses;
-    let c = least(case.code, limits::PAGE);
     let l = least(case.locations, limits::TABLE);
     let f = least(case.fields, limits::TABLE);
     let t = least(case.targets, limits::TABLE);
     let k = least(case.kinds, limits::TABLE);
     let m = least(case.makers, limits::TABLE);
-    let answer = list_filter(
-        &body[program..],
-        flags,
-        mode,
-        &ids[..i],
-        &addresses[..a],
-        &mut page[..c],
+    list_filter(
+        program,
+        parts::flags_of(case),
+        parts::mode_of(case),
+        ids,
+        addresses,
+        &mut page[..size],
         &mut locations[..l],
         &mut fields[..f],
         &mut targets[..t],
         &mut kinds[..k],
         &mut makers[..m],
         STDOUT_FILENO,
+    )
+}
+
+fn show_filter(program: &[u8], case: Case, ids: &[u32], addresses: &[u64], size: usize)
+    requires { ⌜ size ≤ longestPage + 1 ⌝ }
+{
+    let answer = list_lent(program, case, ids, addresses, size);
+    list_saving(
+        program,
+        parts::flags_of(case),
+        parts::mode_of(case),
+        ids,
+        addresses,
+        size,
+        answer,
+        STDOUT_FILENO,
     );
     show_answer(answer);
+}
+
+// Of a longer page than there is the whole is lent, as of a table.
+fn show_case(body: &[u8], case: Case, ids: &[u32], addresses: &[u64])
+    requires { ⌜ (case .ids ≤ length (now ids)) × ((case .addresses ≤ length (now addresses)) × (case .program ≤ length (now body))) ⌝ }
+{
+    let program = case.program;
+    let i = case.ids;
+    let a = case.addresses;
+    let size = least(case.code, limits::PAGE);
+    show_filter(&body[program..], case, &ids[..i], &addresses[..a], size);
 }
 
 fn show_body(index: u64, body: &[u8]) -> Problem {

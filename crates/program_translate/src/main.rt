@@ -1,6 +1,6 @@
 // Translates the bytecode on standard input for a page of 4,096 bytes, with no helpers and both flags false, and writes the code to
-// standard output; the argument --standard asks for standard mode. A refusal writes nothing there and a line on standard error, as
-// `refused 6 0`: its number and its slot.
+// standard output; the argument --standard asks for standard mode, --compact for compact constants. A refusal writes nothing there and a
+// line on standard error, as `refused 6 0`: its number and its slot.
 use cases_bytes::answer::put_refusal_line;
 use cases_bytes::stream;
 use jit::Flags;
@@ -14,43 +14,62 @@ use jit_translate::translate::translate;
 use libc::STDERR_FILENO;
 use libc::STDIN_FILENO;
 use libc::STDOUT_FILENO;
+use listing_arguments::Word;
+use listing_arguments::mode_with;
+use listing_arguments::word_of;
 
 // One byte more than a program may have: a longer one is refused for it, however long it is.
 const INPUT: usize = LONGEST_PROGRAM + 1;
 // An entry for each slot that the input can hold, and one.
 const TABLE: usize = MOST_SLOTS + 1;
 
-// What the arguments ask for, or that one of them is not known.
+// The mode that the arguments ask for, or that one of them is not known.
 enum Asked {
     For(Mode),
     Unclear,
 }
 
-// Whether the argument `index` is --standard, the only one that is known; of any other standard error says so.
-fn is_standard(index: usize) -> bool {
+// Of a word that is not known standard error says so.
+fn unclear(word: &[u8]) -> Asked {
+    io::write_all(STDERR_FILENO, b"translate: unknown argument ");
+    io::write_all(STDERR_FILENO, word);
+    io::write_all(
+        STDERR_FILENO,
+        b" (there are only --standard and --compact)\n",
+    );
+    Asked::Unclear
+}
+
+// The mode with what a word asks for; two words are known.
+fn with_word(mode: Mode, word: &[u8]) -> Asked {
+    match word_of(word) {
+        Word::Standard => Asked::For(mode_with(mode, Word::Standard)),
+        Word::Compact => Asked::For(mode_with(mode, Word::Compact)),
+        _ => unclear(word),
+    }
+}
+
+fn with_argument(mode: Mode, index: usize) -> Asked {
     let mut word = io::buffer();
     let n = os::arg(index, &mut word);
-    if check::same(&word[..n], b"--standard") {
-        return true;
-    }
-    io::write_all(STDERR_FILENO, b"translate: unknown argument ");
-    io::write_all(STDERR_FILENO, &word[..n]);
-    io::write_all(STDERR_FILENO, b" (there is only --standard)\n");
-    false
+    with_word(mode, &word[..n])
 }
 
 fn read_arguments() -> Asked {
     let count = os::arg_count();
-    let mut standard = false;
+    let mut mode = Mode {
+        standard: false,
+        compact: false,
+    };
     let mut i = 1;
     while i < count {
-        if !is_standard(i) {
+        let Asked::For(more) = with_argument(mode, i) else {
             return Asked::Unclear;
-        }
-        standard = true;
+        };
+        mode = more;
         i += 1;
     }
-    Asked::For(Mode { standard })
+    Asked::For(mode)
 }
 
 fn report(refusal: Refusal) {

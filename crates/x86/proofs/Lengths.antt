@@ -9,7 +9,8 @@ use Rattle.base.specs.Bytes.{le32}
 use Rattle.base.specs.declared.Size.{Size}
 use Rattle.base.specs.declared.Size.the-variants.{S8, S16, S32, S64}
 use lib.Dec.{eqb}
-use Rattle.x86.specs.Instr.{Plain, push, pop, alu, aluImm, shiftImm, shiftCl, unary, movabs, rol16, bswap, load, store, storeImm, Jump, jmp, call, jcc}
+use Rattle.base.specs.declared.Width.the-variants.{W32, W64}
+use Rattle.x86.specs.Instr.{Plain, push, pop, alu, aluImm, shiftImm, shiftCl, unary, movImm, rol16, bswap, load, store, storeImm, Jump, jmp, call, jcc}
 use Rattle.x86.specs.Encode.{rex, rexBits, memory, modrm, bare, short, encodePlain, loadOpcode, prefix66, storeOpcode, storeImmOpcode, immBytes, wide, wideSize, jumpOpcode}
 
 -- the longest of each form
@@ -21,7 +22,8 @@ most (aluImm o w d i) = 7
 most (shiftImm o w d i) = 4
 most (shiftCl o w d) = 3
 most (unary o w r) = 3
-most (movabs d i) = 10
+most (movImm W32 d i) = 6
+most (movImm W64 d i) = 10
 most (rol16 d i) = 5
 most (bswap w d) = 3
 most (load z b d x) = 8
@@ -75,7 +77,8 @@ plain-most (aluImm o w d i) = behind (wide w) 0 d _
 plain-most (shiftImm o w d i) = behind (wide w) 0 d _
 plain-most (shiftCl o w d) = behind (wide w) 0 d _
 plain-most (unary o w r) = behind (wide w) 0 r _
-plain-most (movabs d i) = behind 1 0 d _
+plain-most (movImm W32 d i) = behind 0 0 d _
+plain-most (movImm W64 d i) = behind 1 0 d _
 plain-most (rol16 d i) = omega (arith, behind 0 0 d (0xc1 ∷ modrm 3 0 d ∷ i ∷ []))
 plain-most (bswap w d) = behind (wide w) 0 d _
 plain-most (load z b d x) = omega (arith, behind (wideSize z) d b (loadOpcode z ++ memory d b x), load-most z b d x)

@@ -8,7 +8,8 @@ use lib.ListN.{length, drop, length-append}
 use Rattle.base.specs.declared.Size.{Size}
 use Rattle.base.specs.declared.Size.the-variants.{S8, S16, S32, S64}
 use Rattle.code.proofs.ReadsLaws as code
-use Rattle.x86.specs.Instr.{Plain, push, pop, alu, aluImm, shiftImm, shiftCl, unary, movabs, rol16, bswap, load, store, storeImm, Instr, op, jump, callReg, ret}
+use Rattle.base.specs.declared.Width.the-variants.{W32, W64}
+use Rattle.x86.specs.Instr.{Plain, push, pop, alu, aluImm, shiftImm, shiftCl, unary, movImm, rol16, bswap, load, store, storeImm, Instr, op, jump, callReg, ret}
 use Rattle.x86.proofs.WellFormed.{Wf}
 use Rattle.x86.specs.Encode.{isa, rex, wide, wideSize, memory, prefix66, storeRex, loadOpcode, encodePlain, len}
 use Rattle.x86.specs.Decode.{got, all, decode, readAll}
@@ -33,7 +34,8 @@ plain-some (aluImm o w d i) = rw (length-append (rex (wide w) 0 d)) (omega arith
 plain-some (shiftImm o w d i) = rw (length-append (rex (wide w) 0 d)) (omega arith)
 plain-some (shiftCl o w d) = rw (length-append (rex (wide w) 0 d)) (omega arith)
 plain-some (unary o w r) = rw (length-append (rex (wide w) 0 r)) (omega arith)
-plain-some (movabs d i) = rw (length-append (rex 1 0 d)) (omega arith)
+plain-some (movImm W32 d i) = rw (length-append (rex 0 0 d)) (omega arith)
+plain-some (movImm W64 d i) = rw (length-append (rex 1 0 d)) (omega arith)
 plain-some (rol16 d i) = omega arith
 plain-some (bswap w d) = rw (length-append (rex (wide w) 0 d)) (omega arith)
 plain-some (load z b d x) = rw (length-append (rex (wideSize z) d b)) (omega (arith, load-some z (memory d b x)))

@@ -17,7 +17,7 @@ use Rattle.base.specs.declared.Width.the-variants.{W32, W64}
 use Rattle.base.specs.declared.Size.{Size}
 use Rattle.base.specs.declared.Size.the-variants.{S8, S16, S32, S64}
 use Rattle.x86.specs.Instr.{immBits, Alu, ADD, OR, AND, SUB, XOR, CMP, MOV, TEST, Shift, SHL, SHR, SAR, Unary, NEG, MUL, DIV, Cond, JB, JAE, JE, JNE, JBE}
-use Rattle.x86.specs.Instr.{JA, JL, JGE, JLE, JG, push, pop, alu, aluImm, shiftImm, shiftCl, unary, movabs, rol16, bswap, load, store, storeImm, jmp}
+use Rattle.x86.specs.Instr.{JA, JL, JGE, JLE, JG, push, pop, alu, aluImm, shiftImm, shiftCl, unary, movImm, rol16, bswap, load, store, storeImm, jmp}
 use Rattle.x86.specs.Instr.{call, jcc, Instr, op, jump, callReg, ret}
 use Rattle.x86.proofs.WellFormed.{Base, Wf}
 use Rattle.x86.specs.Encode.{wide, rexBits, rex, modrm, bare, short, memory, encode}
@@ -270,7 +270,8 @@ trip (op (aluImm o w d i)) r h = aluImm-back o w d i h.0 h.1 r
 trip (op (shiftImm o w d i)) r h = shiftImm-back o w d i h.0 r
 trip (op (shiftCl o w d)) r h = shiftCl-back o w d h r
 trip (op (unary o w d)) r h = unary-back o w d h r
-trip (op (movabs d i)) r h = start W64 0 d _ _ r (omega arith) ∙ rw (upper, low-back, number8, h .1)
+trip (op (movImm W32 d i)) r h = start W32 0 d _ _ r (omega arith) ∙ rw (upper, low-back, number4, h .1)
+trip (op (movImm W64 d i)) r h = start W64 0 d _ _ r (omega arith) ∙ rw (upper, low-back, number8, h .1)
 trip (op (rol16 d i)) r h = start16 0 d _ _ r (omega arith) ∙ rw (register-back 0 d, number1)
 trip (op (bswap w d)) r h =
     let no-jump : (0xc8 + d % 8) / 16 ≡ 12 = omega arith in

@@ -14,7 +14,7 @@ use Rattle.base.specs.declared.Width.the-variants.{W32, W64}
 use Rattle.base.specs.declared.Size.{Size}
 use Rattle.base.specs.declared.Size.the-variants.{S8, S16, S32, S64}
 use Rattle.x86.specs.Instr.{Alu, ADD, OR, AND, SUB, XOR, CMP, MOV, TEST, Shift, SHL, SHR, SAR, Unary, NEG, MUL, DIV, JB, JAE, JE, JNE, JBE, JA, JL, JGE}
-use Rattle.x86.specs.Instr.{JLE, JG, Plain, push, pop, alu, aluImm, shiftImm, shiftCl, unary, movabs, rol16, bswap, load, store, storeImm, Jump, jmp}
+use Rattle.x86.specs.Instr.{JLE, JG, Plain, push, pop, alu, aluImm, shiftImm, shiftCl, unary, movImm, rol16, bswap, load, store, storeImm, Jump, jmp}
 use Rattle.x86.specs.Instr.{call, jcc, op, jump, callReg, ret}
 
 -- the instruction, and the bytes behind it
@@ -68,13 +68,9 @@ byWidth W64 a b = b
 abbrev sizeOf : Rex → Size
 sizeOf x = byWidth (x .width) S32 S64
 
--- What is written without REX.W only, with it only, with any REX only, and without any only. It may mean something otherwise too, and
--- is refused.
+-- What is written without REX.W only, with any REX only, and without any only. It may mean something otherwise too, and is refused.
 abbrev only32 : Rex → Next → Next
 only32 x k = byWidth (x .width) k refuse
-
-abbrev only64 : Rex → Next → Next
-only64 x k = byWidth (x .width) refuse k
 
 abbrev onlyRex : Rex → Next → Next
 onlyRex x k = pick (x .there) k refuse
@@ -233,10 +229,10 @@ oneByte x =
     ∷ 0xff ⇒ registers x (λ e d. group5 (got (callReg d)) e)
     ∷ []
 
--- 50+r, 58+r and B8+r: a register in the opcode. The operands of PUSH and POP are 64 bits wide whatever REX.W is (section 2.2.1.7), and
--- REX.R has nothing to say here.
+-- 50+r, 58+r and B8+r: a register in the opcode. The operands of PUSH and POP are 64 bits wide whatever REX.W is (section 2.2.1.7); the
+-- constant of MOV has as many bytes as its register (B8+rd id, REX.W B8+rd io). REX.R has nothing to say here.
 abbrev inOpcode : Rex → ℕ → List (Arm Next)
-inOpcode x d = 10 ⇒ done (push d) ∷ 11 ⇒ done (pop d) ∷ 23 ⇒ only64 x (number 8 (λ i. done (movabs d i))) ∷ []
+inOpcode x d = 10 ⇒ done (push d) ∷ 11 ⇒ done (pop d) ∷ 23 ⇒ number (byWidth (x .width) 4 8) (λ i. done (movImm (x .width) d i)) ∷ []
 
 unfoldable pub opcode : Rex → ℕ → Next
 opcode x o = cases (inOpcode x (lowNumber x o)) (cases (oneByte x) refuse o) (o / 8)

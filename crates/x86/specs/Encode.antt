@@ -16,7 +16,7 @@ use Rattle.base.specs.declared.Width.the-variants.{W32, W64}
 use Rattle.base.specs.declared.Size.{Size}
 use Rattle.base.specs.declared.Size.the-variants.{S8, S16, S32, S64}
 use Rattle.x86.specs.Instr.{Alu, ADD, OR, AND, SUB, XOR, CMP, MOV, TEST, Shift, SHL, SHR, SAR, Unary, NEG, MUL, DIV, Cond, JB, JAE, JE, JNE, JBE, JA, JL}
-use Rattle.x86.specs.Instr.{JGE, JLE, JG, Plain, push, pop, alu, aluImm, shiftImm, shiftCl, unary, movabs, rol16, bswap, load, store, storeImm, Jump, jmp}
+use Rattle.x86.specs.Instr.{JGE, JLE, JG, Plain, push, pop, alu, aluImm, shiftImm, shiftCl, unary, movImm, rol16, bswap, load, store, storeImm, Jump, jmp}
 use Rattle.x86.specs.Instr.{call, jcc, Instr}
 
 -- The opcode bytes, each under its page of the manual.
@@ -160,6 +160,11 @@ immBytes S16 i = le16 i
 immBytes S32 i = le32 i
 immBytes S64 i = le32 i
 
+-- B8+rd id, REX.W B8+rd io: all of the constant
+abbrev pub constantBytes : Width → ℕ → List ℕ
+constantBytes W32 i = le32 i
+constantBytes W64 i = le64 i
+
 abbrev pub encodePlain : Plain → List ℕ
 encodePlain (push r) = rex 0 0 r ++ ((0x50 + r % 8) ∷ [])
 encodePlain (pop r) = rex 0 0 r ++ ((0x58 + r % 8) ∷ [])
@@ -168,7 +173,7 @@ encodePlain (aluImm o w d i) = rex (wide w) 0 d ++ (aluImmOpcode o ∷ modrm 3 (
 encodePlain (shiftImm o w d i) = rex (wide w) 0 d ++ (0xc1 ∷ modrm 3 (shiftExtension o) d ∷ i ∷ [])
 encodePlain (shiftCl o w d) = rex (wide w) 0 d ++ (0xd3 ∷ modrm 3 (shiftExtension o) d ∷ [])
 encodePlain (unary o w r) = rex (wide w) 0 r ++ (0xf7 ∷ modrm 3 (unaryExtension o) r ∷ [])
-encodePlain (movabs d i) = rex 1 0 d ++ ((0xb8 + d % 8) ∷ le64 i)
+encodePlain (movImm w d i) = rex (wide w) 0 d ++ ((0xb8 + d % 8) ∷ constantBytes w i)
 encodePlain (rol16 d i) = 0x66 ∷ (rex 0 0 d ++ (0xc1 ∷ modrm 3 0 d ∷ i ∷ []))
 encodePlain (bswap w d) = rex (wide w) 0 d ++ (0x0f ∷ (0xc8 + d % 8) ∷ [])
 encodePlain (load z b d x) = rex (wideSize z) d b ++ (loadOpcode z ++ memory d b x)

@@ -33,8 +33,8 @@ pub data Plain : Type 0 where
   shiftImm : Shift → Width → (dst imm : ℕ) → Plain
   shiftCl : Shift → Width → (dst : ℕ) → Plain
   unary : Unary → Width → (r : ℕ) → Plain
-  -- the constant of eight bytes
-  movabs : (dst imm : ℕ) → Plain
+  -- a constant of the operand's width: four bytes, which clear the upper half, or eight
+  movImm : Width → (dst imm : ℕ) → Plain
   rol16 : (dst imm : ℕ) → Plain
   bswap : Width → (dst : ℕ) → Plain
   -- register and [base + disp]; loads of one and two bytes extend with zeros

@@ -86,7 +86,7 @@ pub const PUSH: u8 = 0x50;
 
 pub const POP: u8 = 0x58;
 
-pub const MOVABS: u8 = 0xb8;
+pub const MOV_IMM: u8 = 0xb8;
 
 pub const BSWAP: u8 = 0xc8;
 

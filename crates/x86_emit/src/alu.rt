@@ -3,8 +3,9 @@ ghost use mathlib.Core.Path.{_≡_};
 ghost use mathlib.Core.List.{[], _∷_, _++_};
 ghost use Prim.Native.Nat.{_+_, _<_};
 ghost use Rattle.base.specs.Bytes.{le32};
+ghost use Rattle.base.specs.declared.Width.the-variants.{W32, W64};
 ghost use Rattle.x86.specs.Encode.{wide, rex, modrm, encodePlain};
-ghost use Rattle.x86.specs.Instr.{push, pop, movabs, rol16, bswap};
+ghost use Rattle.x86.specs.Instr.{push, pop, movImm, rol16, bswap};
 ghost use Rattle.x86_emit.specs.Lent.{Wrote, Fits};
 use crate::bytes;
 use base::Position;
@@ -13,7 +14,7 @@ use x86::BSWAP;
 use x86::GROUP2_IMM8;
 use x86::GROUP2_ROL;
 use x86::MOD_REGISTER;
-use x86::MOVABS;
+use x86::MOV_IMM;
 use x86::OPERAND_SIZE;
 use x86::POP;
 use x86::PUSH;
@@ -108,10 +109,19 @@ pub fn emit_alu_imm8(
 // The constant of eight bytes.
 pub fn emit_movabs(code: &mut [u8], at: Position, dst: u8, imm: u64) -> Position
     requires { ⌜ Fits code at × (dst < 16) ⌝ }
-    ensures { λ x. ⌜ Wrote code at x (encodePlain (movabs dst imm)) ⌝ }
+    ensures { λ x. ⌜ Wrote code at x (encodePlain (movImm W64 dst imm)) ⌝ }
 {
-    let next = bytes::emit_rexed(code, at, 1, 0, dst, (MOVABS + dst % 8) as u64, 1);
+    let next = bytes::emit_rexed(code, at, 1, 0, dst, (MOV_IMM + dst % 8) as u64, 1);
     bytes::emit_bytes(code, next, imm, 8)
+}
+
+// .. and of four, for which the processor clears the upper half.
+pub fn emit_mov_imm32(code: &mut [u8], at: Position, dst: u8, imm: u32) -> Position
+    requires { ⌜ Fits code at × (dst < 16) ⌝ }
+    ensures { λ x. ⌜ Wrote code at x (encodePlain (movImm W32 dst imm)) ⌝ }
+{
+    let rest = (MOV_IMM + dst % 8) as u64 + 256 * (imm as u64);
+    bytes::emit_rexed(code, at, 0, 0, dst, rest, 5)
 }
 
 // The 16-bit override stands before REX.

@@ -1,8 +1,10 @@
 -- What the readers of bytes answer: the bytes from a place on, and how the definition's `number` goes on with them.
 use mathlib.Core.Path.{_≡_}
 use mathlib.Core.List.{List, [], _∷_}
-use Prim.Native.Nat.{ℕ}
+use Prim.Native.Nat.{ℕ, _/_}
 use lib.ListN.{drop}
+use Rattle.base.specs.Widths.{bits}
+use Rattle.base.specs.declared.Width.{Width}
 use Rattle.x86.specs.Decode.{Read, bad, Next, number}
 use Rattle.x86_encoding.specs.declared.bytes.Byte.{Byte}
 use Rattle.x86_encoding.specs.declared.bytes.Four.{Four}
@@ -29,3 +31,7 @@ Reads4 s at r = (k : ℕ → Next) → number 4 k (drop at s) ≡ fourIs s r k
 
 abbrev pub Reads8 : List ℕ → ℕ → Eight → Type 0
 Reads8 s at r = (k : ℕ → Next) → number 8 k (drop at s) ≡ eightIs s r k
+
+-- the bytes of a width
+abbrev pub ReadsWord : Width → List ℕ → ℕ → Eight → Type 0
+ReadsWord w s at r = (k : ℕ → Next) → number (bits w / 8) k (drop at s) ≡ eightIs s r k

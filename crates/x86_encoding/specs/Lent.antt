@@ -5,6 +5,7 @@ use Prim.Native.Nat.{ℕ}
 use denote.Ref.{now}
 use lib.ListN.{drop}
 use Rattle.base.specs.Lent.{Lent}
+use Rattle.base.specs.declared.Width.{Width}
 use Rattle.x86_encoding.specs.Bytes as B
 use Rattle.x86_encoding.specs.Operand as O
 use Rattle.x86_encoding.specs.declared.bytes.Byte.{Byte}
@@ -14,7 +15,7 @@ use Rattle.x86_encoding.specs.declared.operand.Rex.{Rex}
 use Rattle.x86_encoding.specs.declared.operand.Head.{Head}
 use Rattle.x86_encoding.specs.declared.operand.Modrm.{Modrm}
 
--- one byte, and the numbers of two, four and eight
+-- one byte, and the numbers of two, four and eight, and of as many as a width has
 abbrev pub Reads1 : Lent → (at : ℕ) → Byte → Type 0
 Reads1 code at r = drop at (now (code .entry)) ≡ B.byteIs (now (code .entry)) r
 
@@ -26,6 +27,9 @@ Reads4 code at r = B.Reads4 (now (code .entry)) at r
 
 abbrev pub Reads8 : Lent → (at : ℕ) → Eight → Type 0
 Reads8 code at r = B.Reads8 (now (code .entry)) at r
+
+abbrev pub ReadsWord : Lent → (at : ℕ) → Width → Eight → Type 0
+ReadsWord code at w r = B.ReadsWord w (now (code .entry)) at r
 
 -- REX and the opcode
 abbrev pub Heads : Lent → (at : ℕ) → Head → Type 0

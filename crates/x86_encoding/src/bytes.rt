@@ -1,8 +1,9 @@
-// Bytes of the page from a place on: one, and the numbers that two, four and eight of them make. Each answer holds the place behind
-// what was read.
+// Bytes of the page from a place on: one, and the numbers that two, four and eight of them make, the last two also by a width. Each answer
+// holds the place behind what was read.
 ghost use mathlib.Core.Path.{_≡_};
 ghost use Prim.Native.Nat.{_<_, _^_};
-ghost use Rattle.x86_encoding.specs.Lent.{Reads1, Reads2, Reads4, Reads8};
+ghost use Rattle.x86_encoding.specs.Lent.{Reads1, Reads2, Reads4, Reads8, ReadsWord};
+use base::Width;
 
 pub enum Byte {
     End,
@@ -73,7 +74,7 @@ pub fn four_at(code: &[u8], at: usize) -> Four
     Four::Is(wide32(b0) + 256 * (wide32(b1) + 256 * high), at4)
 }
 
-pub fn eight_at(code: &[u8], at: usize) -> Eight
+fn eight_at(code: &[u8], at: usize) -> Eight
     ensures { λ r. ⌜ Reads8 code at r ⌝ }
 {
     let Four::Is(low, middle) = four_at(code, at) else {
@@ -83,4 +84,19 @@ pub fn eight_at(code: &[u8], at: usize) -> Eight
         return Eight::End;
     };
     Eight::Is(wide64(low) + 0x1_0000_0000 * wide64(high), end)
+}
+
+// Four bytes or eight, as the width says, in a number of 64 bits.
+pub fn word_at(code: &[u8], at: usize, w: Width) -> Eight
+    ensures { λ r. ⌜ ReadsWord code at w r ⌝ }
+{
+    match w {
+        Width::W32 => {
+            let Four::Is(low, end) = four_at(code, at) else {
+                return Eight::End;
+            };
+            Eight::Is(wide64(low), end)
+        },
+        Width::W64 => eight_at(code, at),
+    }
 }

@@ -1,5 +1,5 @@
--- The forms that go by REX: 89 to memory, 8B and C7 to memory, which move a word of the width that REX.W says; those behind 66, which are
--- read at 32 bits alone; 88, which is read behind a REX alone. The definition's own continuations fit what the readers promise of any.
+-- The forms that go by REX: 89 to memory, 8B and C7 to memory, which move a word of the width that REX.W says, and B8+r, which has a
+-- constant of it; those behind 66, which are read at 32 bits alone; 88, which is read behind a REX alone. The definition's own continuations fit what the readers promise of any.
 use mathlib.Core.Path.{_≡_, refl}
 use mathlib.Core.Bool.{Bool, true, false}
 use mathlib.Core.List.{List, _∷_}
@@ -8,11 +8,12 @@ use native.Mathlib.Omega.{arith}
 use lib.ListN.{drop}
 use lib.Dec.{eqb}
 use Rattle.base.specs.Pick.{pick}
+use Rattle.base.specs.Widths.{bits}
 use Rattle.base.specs.declared.Size.{Size}
 use Rattle.base.specs.declared.Size.the-variants.{S8, S16}
 use Rattle.base.specs.declared.Width.{Width}
 use Rattle.base.specs.declared.Width.the-variants.{W32, W64}
-use Rattle.x86.specs.Instr.{op, load, store, storeImm, movabs}
+use Rattle.x86.specs.Instr.{op, load, store, storeImm, movImm}
 use Rattle.x86.specs.Decode.{Rex, Read, bad, got, Next, number, lowNumber, Operand, inMemory, withModrm, opcode, opcode16}
 use Rattle.x86_instructions.specs.Instructions.{wordOf}
 use Rattle.x86_forms.specs.Forms.{OnMemory, Stores, Rotates}
@@ -42,6 +43,13 @@ module _ (t : Bool) (R B : ℕ) where
   unfolding opcode
   store-word W32 l r n b v z q e h m c = rw (h, m, ← e) c
   store-word W64 l r n b v z q e h m c = rw (h, m, ← e) c
+
+  -- B8+r
+  pub constant : (w : Width) (o d : ℕ) (l : List ℕ) (r : Read) → o / 8 ≡ 23 → d ≡ lowNumber (rex t w R B) o
+      → number (bits w / 8) (λ i. got (op (movImm w d i))) l ≡ r → opcode (rex t w R B) o l ≡ r
+  unfolding opcode
+  constant W32 o d l r p q h = rw (p, ← q) h
+  constant W64 o d l r p q h = rw (p, ← q) h
 
 -- refused whether the extension fits or not
 pub only-none : (e n : ℕ) (l : List ℕ) → pick {A = Next} (eqb e n) (λ r. bad) (λ r. bad) l ≡ bad
@@ -87,13 +95,6 @@ module _ (t : Bool) (R B : ℕ) where
   unfolding opcode
   load-two W32 s at r e h = h _ (λ n b v l. refl) (λ n d l. refl)
   load-two W64 s at r e h = let z : _≡_ {A = ℕ} 0 1 = cc in absurd (omega arith)
-
-  -- B8+r, at 64 bits alone
-  pub constant : (w : Width) (o d : ℕ) (l : List ℕ) (r : Read) → w ≡ W64 → o / 8 ≡ 23 → d ≡ lowNumber (rex t w R B) o
-      → number 8 (λ i. got (op (movabs d i))) l ≡ r → opcode (rex t w R B) o l ≡ r
-  unfolding opcode
-  constant W64 o d l r e p q h = rw (p, ← q) h
-  constant W32 o d l r e p q h = let z : _≡_ {A = ℕ} 0 1 = cc in absurd (omega arith)
 
 -- 88, behind a REX alone
 module _ (w : Width) (R B : ℕ) where

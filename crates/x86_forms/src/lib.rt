@@ -3,7 +3,8 @@
 ghost use mathlib.Core.Path.{_≡_};
 ghost use mathlib.Core.List.{_∷_};
 ghost use Prim.Native.Nat.{_/_};
-ghost use Rattle.x86.specs.Instr.{op, alu, aluImm, shiftImm, load, store, storeImm, movabs, jump};
+ghost use Rattle.base.specs.Widths.{bits};
+ghost use Rattle.x86.specs.Instr.{op, alu, aluImm, shiftImm, load, store, storeImm, movImm, jump};
 ghost use Rattle.x86.specs.Decode.{number, got, opcode};
 ghost use Rattle.x86_encoding.specs.Operand.{rexIs};
 ghost use Rattle.x86_instructions.specs.Instructions.{aluOf, shiftOf, jumpOf};
@@ -157,12 +158,12 @@ pub fn conditional_at(code: &[u8], at: usize, x: Rex, o: u8) -> Read
     }
 }
 
-// B8+r
-pub fn movabs_at(code: &[u8], at: usize, d: u8) -> Read
-    ensures { λ r. ⌜ Reads code at (number 8 (λ i. got (op (movabs d i)))) r ⌝ }
+// B8+r: all of a constant of the width
+pub fn mov_imm_at(code: &[u8], at: usize, w: Width, d: u8) -> Read
+    ensures { λ r. ⌜ Reads code at (number (bits w / 8) (λ i. got (op (movImm w d i)))) r ⌝ }
 {
-    let Eight::Is(imm, end) = bytes::eight_at(code, at) else {
+    let Eight::Is(imm, end) = bytes::word_at(code, at, w) else {
         return Read::Bad;
     };
-    Read::Got(Instruction::Movabs(d, imm), end)
+    Read::Got(Instruction::MovImm(w, d, imm), end)
 }

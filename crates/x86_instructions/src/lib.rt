@@ -59,7 +59,8 @@ pub enum Instruction {
     ShiftImm(Shift, Width, u8, u8),
     ShiftCl(Shift, Width, u8),
     Unary(Unary, Width, u8),
-    Movabs(u8, u64),
+    // destination, constant
+    MovImm(Width, u8, u64),
     Rol16(u8, u8),
     Bswap(Width, u8),
     // base, destination, displacement

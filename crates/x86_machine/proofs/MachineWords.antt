@@ -17,7 +17,7 @@ use Rattle.base.specs.declared.Size.{Size}
 use Rattle.base.specs.declared.Size.the-variants.{S8, S16, S32, S64}
 use Rattle.x86.specs.Registers.{RAX}
 use Rattle.x86.specs.Instr.{Alu, ADD, OR, AND, SUB, XOR, CMP, MOV, TEST, Shift, SHL, SHR, SAR, Unary, NEG, MUL, DIV, Plain, push, pop, alu, aluImm, shiftImm}
-use Rattle.x86.specs.Instr.{shiftCl, unary, movabs, rol16, bswap, load, store, storeImm}
+use Rattle.x86.specs.Instr.{shiftCl, unary, movImm, rol16, bswap, load, store, storeImm}
 use Rattle.x86.proofs.WellFormed.{WfPlain}
 use Rattle.x86_machine.specs.Machine.{Regs, bits, rd, put, puts, Write, Input, extended, negative, result, aluWrites, counted, inCl, shifted, rolled}
 use Rattle.x86_machine.specs.Machine.{swapped, swapBytes, dividend, divides, sizeBits, unaryWrites, unaryFaults, writesOf, faultsOf}
@@ -157,7 +157,7 @@ written (aluImm o w d i) g u h f = alu-below o d _ (word w _ (result-lt o w (rd 
 written (shiftImm o w d i) g u h f = (word w _ (shifted-lt o w (rd w g d) (counted w i) (counted-le w i) (rd-lt w g d)), tt)
 written (shiftCl o w d) g u h f = (word w _ (shifted-lt o w (rd w g d) (counted w (inCl g)) (counted-le w (inCl g)) (rd-lt w g d)), tt)
 written (unary o w r) g u h f = unary-below o w g r f
-written (movabs d i) g u h f = (omega arith, tt)
+written (movImm w d i) g u h f = (mod-word w i, tt)
 written (rol16 d i) g u h f = (omega (arith, rolled-lt (rd W64 g d) (i % 32), rd-lt W64 g d), tt)
 written (bswap w d) g u h f = (word w _ (swapped-lt w (rd w g d)), tt)
 written (load z b d x) g u h f = (loaded-lt z (u .value), tt)

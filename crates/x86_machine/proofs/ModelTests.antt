@@ -1,4 +1,4 @@
--- Tests of the model: 215 instructions, each stepped by antt from given registers, flags and inputs, and what comes of it. The table is
+-- Tests of the model: 219 instructions, each stepped by antt from given registers, flags and inputs, and what comes of it. The table is
 -- written by model-test/run, from a transliteration of Machine.antt that the same command holds to a real processor; do not edit it.
 use mathlib.Core.Path.{_≡_, refl}
 use mathlib.Core.Bool.{Bool, true, false}
@@ -7,7 +7,7 @@ use Prim.Native.Nat.{ℕ, _+_}
 use Rattle.base.specs.Table.{values}
 use Rattle.base.specs.declared.Width.the-variants.{W32, W64}
 use Rattle.base.specs.declared.Size.the-variants.{S8, S16, S32, S64}
-use Rattle.x86.specs.Instr.{Instr, op, push, pop, alu, aluImm, shiftImm, shiftCl, unary, movabs, rol16, bswap, load, store, storeImm, jump, jmp, call, jcc}
+use Rattle.x86.specs.Instr.{Instr, op, push, pop, alu, aluImm, shiftImm, shiftCl, unary, movImm, rol16, bswap, load, store, storeImm, jump, jmp, call, jcc}
 use Rattle.x86.specs.Instr.{callReg, ret, ADD, OR, AND, SUB, XOR, CMP, MOV, TEST, SHL, SHR, SAR, NEG, MUL, DIV, JB, JAE, JE, JNE, JBE, JA, JL, JGE, JLE, JG}
 use Rattle.x86.specs.Encode.{encode, rex, modrm, memory, bare, short}
 use Rattle.x86.specs.Decode.{decode, withRex, rexOf, opcode, opcode16, withModrm, regNumber, lowNumber, number}
@@ -324,7 +324,7 @@ table =
     (0 ∷ 6 ∷ 1 ∷ 18446744073709551615 ∷ 0 ∷ 0 ∷ 0 ∷ 0 ∷ 0 ∷ 0 ∷ 0 ∷ 0 ∷ 0 ∷ 0 ∷ 0 ∷ 0 ∷ 0 ∷ 0 ∷ 0 ∷ 1 ∷ 0 ∷ 1 ∷ []) ∷
     line (op (bswap W64 15)) (write 15 81985529216486895 ∷ []) (st I I O I) (st I I O I) true 0 0 ([])
     (0 ∷ 6 ∷ 0 ∷ 0 ∷ 0 ∷ 0 ∷ 0 ∷ 0 ∷ 0 ∷ 0 ∷ 0 ∷ 0 ∷ 0 ∷ 0 ∷ 0 ∷ 0 ∷ 0 ∷ 17279655951921914625 ∷ 1 ∷ 1 ∷ 0 ∷ 1 ∷ []) ∷
-    line (op (movabs 11 18364758544493064720)) (write 11 1 ∷ []) (st I O I O) (st O I I O) true 0 0 ([])
+    line (op (movImm W64 11 18364758544493064720)) (write 11 1 ∷ []) (st I O I O) (st O I I O) true 0 0 ([])
     (0 ∷ 13 ∷ 0 ∷ 0 ∷ 0 ∷ 0 ∷ 0 ∷ 0 ∷ 0 ∷ 0 ∷ 0 ∷ 0 ∷ 0 ∷ 18364758544493064720 ∷ 0 ∷ 0 ∷ 0 ∷ 0 ∷ 1 ∷ 0 ∷ 1 ∷ 0 ∷ []) ∷
     line (op (rol16 7 0)) (write 7 18446744073709518849 ∷ []) (st I O I O) (st O I I O) true 0 0 ([])
     (0 ∷ 7 ∷ 0 ∷ 0 ∷ 0 ∷ 0 ∷ 0 ∷ 0 ∷ 0 ∷ 18446744073709518849 ∷ 0 ∷ 0 ∷ 0 ∷ 0 ∷ 0 ∷ 0 ∷ 0 ∷ 0 ∷ 1 ∷ 0 ∷ 1 ∷ 0 ∷ []) ∷
@@ -498,6 +498,14 @@ table =
     (0 ∷ 13 ∷ 0 ∷ 0 ∷ 0 ∷ 0 ∷ 0 ∷ 0 ∷ 0 ∷ 0 ∷ 0 ∷ 0 ∷ 0 ∷ 0 ∷ 0 ∷ 0 ∷ 0 ∷ 0 ∷ 0 ∷ 1 ∷ 1 ∷ 1 ∷ []) ∷
     line (jump (jcc JE) 5) ([]) (st O O I I) (st I I O I) false 0 0 ([])
     (0 ∷ 9 ∷ 0 ∷ 0 ∷ 0 ∷ 0 ∷ 0 ∷ 0 ∷ 0 ∷ 0 ∷ 0 ∷ 0 ∷ 0 ∷ 0 ∷ 0 ∷ 0 ∷ 0 ∷ 0 ∷ 0 ∷ 0 ∷ 1 ∷ 1 ∷ []) ∷
+    line (op (movImm W32 11 4275878552)) (write 11 18446744073709551615 ∷ []) (st O O I O) (st I O I I) true 0 0 ([])
+    (0 ∷ 9 ∷ 0 ∷ 0 ∷ 0 ∷ 0 ∷ 0 ∷ 0 ∷ 0 ∷ 0 ∷ 0 ∷ 0 ∷ 0 ∷ 4275878552 ∷ 0 ∷ 0 ∷ 0 ∷ 0 ∷ 0 ∷ 0 ∷ 1 ∷ 0 ∷ []) ∷
+    line (op (movImm W32 1 2147483647)) (write 1 18446744073709551615 ∷ []) (st I I I I) (st O O O O) true 0 0 ([])
+    (0 ∷ 8 ∷ 0 ∷ 2147483647 ∷ 0 ∷ 0 ∷ 0 ∷ 0 ∷ 0 ∷ 0 ∷ 0 ∷ 0 ∷ 0 ∷ 0 ∷ 0 ∷ 0 ∷ 0 ∷ 0 ∷ 1 ∷ 1 ∷ 1 ∷ 1 ∷ []) ∷
+    line (op (movImm W32 4 0)) (write 4 18446744073709551615 ∷ []) (st I I O I) (st I I I I) true 0 0 ([])
+    (0 ∷ 8 ∷ 0 ∷ 0 ∷ 0 ∷ 0 ∷ 0 ∷ 0 ∷ 0 ∷ 0 ∷ 0 ∷ 0 ∷ 0 ∷ 0 ∷ 0 ∷ 0 ∷ 0 ∷ 0 ∷ 1 ∷ 1 ∷ 0 ∷ 1 ∷ []) ∷
+    line (op (movImm W32 0 5)) (write 0 18446744073709551615 ∷ []) (st I I I O) (st O O I I) false 0 0 ([])
+    (0 ∷ 8 ∷ 5 ∷ 0 ∷ 0 ∷ 0 ∷ 0 ∷ 0 ∷ 0 ∷ 0 ∷ 0 ∷ 0 ∷ 0 ∷ 0 ∷ 0 ∷ 0 ∷ 0 ∷ 0 ∷ 1 ∷ 1 ∷ 1 ∷ 0 ∷ []) ∷
     []
 
 pub tested : map comes table ≡ map (λ (l : Line). l .expected) table

@@ -18,7 +18,7 @@ use Rattle.base.specs.declared.Width.the-variants.{W32, W64}
 unfoldable pub use Rattle.code.specs.Landing.{follow}
 use Rattle.x86.specs.Registers.{RAX, RCX, RDX, RSP}
 use Rattle.x86.specs.Instr.{Alu, ADD, OR, AND, SUB, XOR, CMP, MOV, TEST, Shift, SHL, SHR, SAR, Unary, NEG, MUL, DIV, Cond, JB, JAE, JE, JNE, JBE, JA, JL, JGE}
-use Rattle.x86.specs.Instr.{JLE, JG, Plain, push, pop, alu, aluImm, shiftImm, shiftCl, unary, movabs, rol16, bswap, load, store, storeImm, Jump, jmp, call, jcc}
+use Rattle.x86.specs.Instr.{JLE, JG, Plain, push, pop, alu, aluImm, shiftImm, shiftCl, unary, movImm, rol16, bswap, load, store, storeImm, Jump, jmp, call, jcc}
 use Rattle.x86.specs.Instr.{Instr, op, jump, callReg, ret}
 use Rattle.x86.specs.Decode.{Read, bad, got, decode}
 
@@ -231,7 +231,7 @@ writesOf (aluImm o w d i) g u = aluWrites o d (result o w (rd w g d) (extended w
 writesOf (shiftImm o w d i) g u = write d (shifted o w (rd w g d) (counted w i)) ∷ []
 writesOf (shiftCl o w d) g u = write d (shifted o w (rd w g d) (counted w (inCl g))) ∷ []
 writesOf (unary o w r) g u = unaryWrites o w g r
-writesOf (movabs d i) g u = write d (i % 2 ^ 64) ∷ []
+writesOf (movImm w d i) g u = write d (i % 2 ^ bits w) ∷ []
 writesOf (rol16 d i) g u = write d (keptAbove16 (rd W64 g d) (rolled (rd W64 g d) (rolCount i))) ∷ []
 writesOf (bswap w d) g u = write d (swapped (swapBytes w) (rd w g d)) ∷ []
 writesOf (load z b d x) g u = write d (u .value % 2 ^ sizeBits z) ∷ []
@@ -252,7 +252,7 @@ statusOf (aluImm o w d i) g f u = aluStatus o w (rd w g d) (extended w i) f
 statusOf (shiftImm o w d i) g f u = shiftStatus o w (rd w g d) (counted w i) f u
 statusOf (shiftCl o w d) g f u = shiftStatus o w (rd w g d) (counted w (inCl g)) f u
 statusOf (unary o w r) g f u = unaryStatus o w g r u
-statusOf (movabs d i) g f u = f
+statusOf (movImm w d i) g f u = f
 statusOf (rol16 d i) g f u = rolStatus (rd W64 g d) (rolCount i) f u
 statusOf (bswap w d) g f u = f
 statusOf (load z b d x) g f u = f
@@ -273,7 +273,7 @@ faultsOf (aluImm o w d i) g = false
 faultsOf (shiftImm o w d i) g = false
 faultsOf (shiftCl o w d) g = false
 faultsOf (unary o w r) g = unaryFaults o w g r
-faultsOf (movabs d i) g = false
+faultsOf (movImm w d i) g = false
 faultsOf (rol16 d i) g = false
 faultsOf (bswap w d) g = false
 faultsOf (load z b d x) g = false
@@ -289,7 +289,7 @@ plainTouches (aluImm o w d i) = false
 plainTouches (shiftImm o w d i) = false
 plainTouches (shiftCl o w d) = false
 plainTouches (unary o w r) = false
-plainTouches (movabs d i) = false
+plainTouches (movImm w d i) = false
 plainTouches (rol16 d i) = false
 plainTouches (bswap w d) = false
 plainTouches (load z b d x) = true

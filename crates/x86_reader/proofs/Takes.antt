@@ -106,7 +106,7 @@ module _ (t : Bool) (R B : ℕ) where
   -- B8+r
   moves : (w : Width) (o : ℕ) → o / 8 ≡ 23 → Leaves (opcode (rex t w R B) o)
   unfolding opcode
-  moves W32 o p = rw p nothing
+  moves W32 o p = rw p (constant 4 _)
   moves W64 o p = rw p (constant 8 _)
 
   -- each opcode in the definition's order

@@ -116,6 +116,36 @@ pub move-constant :
 unfolding opcode withModrm regNumber lowNumber number E.rex E.modrm E.memory E.bare E.short
 move-constant = (λ e. omega (arith, ap told e), λ e. omega (arith, ap told e))
 
+-- constant_at: movabs rax, 0x0807060504030201 and mov r8d, 0x04030201
+abbrev constants : List ℕ
+constants = 1 ∷ 2 ∷ 3 ∷ 4 ∷ 5 ∷ 6 ∷ 7 ∷ 8 ∷ []
+
+-- their right readings, with REX.W, with REX.B and without a REX
+pub right-constants :
+    Groups wide 0xb8 constants (Read.Got (Instruction.MovImm W64 0 0x0807060504030201) 8)
+    × (Groups high 0xb8 constants (Read.Got (Instruction.MovImm W32 8 0x04030201) 4)
+    × Groups bare 0xb8 constants (Read.Got (Instruction.MovImm W32 0 0x04030201) 4))
+unfolding opcode lowNumber number
+right-constants = (refl, (refl, refl))
+
+-- where REX.W is set, four bytes at 64 bits, and at 32
+pub wide-constant :
+    (Groups wide 0xb8 constants (Read.Got (Instruction.MovImm W64 0 0x04030201) 4) → ⊥)
+    × (Groups wide 0xb8 constants (Read.Got (Instruction.MovImm W32 0 0x04030201) 4) → ⊥)
+unfolding opcode lowNumber number E.rex
+wide-constant = (λ e. omega (arith, ap told e), λ e. omega (arith, ap told e))
+
+-- where it is not, eight bytes, and four at 64 bits; REX.B forgotten; none without a REX
+pub narrow-constant :
+    (Groups high 0xb8 constants (Read.Got (Instruction.MovImm W64 8 0x0807060504030201) 8) → ⊥)
+    × ((Groups high 0xb8 constants (Read.Got (Instruction.MovImm W64 8 0x04030201) 4) → ⊥)
+    × ((Groups high 0xb8 constants (Read.Got (Instruction.MovImm W32 0 0x04030201) 4) → ⊥) × (Groups bare 0xb8 constants Read.Bad → ⊥)))
+unfolding opcode lowNumber number E.rex
+narrow-constant = (
+  λ e. omega (arith, ap told e),
+  (λ e. omega (arith, ap told e), (λ e. omega (arith, ap told e), λ e. omega (arith, ap told e))),
+)
+
 -- Those whose contract is `Stores` or `Rotates` are groups too.
 byte-group : (s : List ℕ) (r : Read) → (Groups bare 0xc6 s r → ⊥) → Stores 1 S8 (rexIs bare) s 0 (readIs s r) → ⊥
 byte-group s r n h = n (store-byte (rexIs bare) s 0 (readIs s r) h)

@@ -28,7 +28,7 @@ const PUSH: u8 = 0x50 / 8;
 
 const POP: u8 = 0x58 / 8;
 
-const MOVABS: u8 = 0xb8 / 8;
+const MOV_IMM: u8 = 0xb8 / 8;
 
 const BSWAP: u8 = 0xc8 / 8;
 
@@ -101,16 +101,13 @@ fn load_word_at(code: &[u8], at: usize, x: Rex) -> Read
     x86_forms::load_at(code, at, x, z)
 }
 
-// B8+r, with REX.W alone
+// B8+r
 fn constant_at(code: &[u8], at: usize, x: Rex, o: u8) -> Read
     requires { ⌜ o / 8 ≡ 0xb8 / 8 ⌝ }
     ensures { λ r. ⌜ Reads code at (opcode (rexIs x) o) r ⌝ }
 {
     let w = x.width;
-    match w {
-        Width::W32 => Read::Bad,
-        Width::W64 => x86_forms::movabs_at(code, at, operand::low_number(x, o)),
-    }
+    x86_forms::mov_imm_at(code, at, w, operand::low_number(x, o))
 }
 
 // The opcodes of 40 to BF that name a register themselves.
@@ -121,7 +118,7 @@ fn in_opcode_at(code: &[u8], at: usize, x: Rex, o: u8) -> Read
     match o / 8 {
         PUSH => Read::Got(Instruction::Push(operand::low_number(x, o)), at),
         POP => Read::Got(Instruction::Pop(operand::low_number(x, o)), at),
-        MOVABS => constant_at(code, at, x, o),
+        MOV_IMM => constant_at(code, at, x, o),
         _ => Read::Bad,
     }
 }

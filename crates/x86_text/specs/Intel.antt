@@ -3,6 +3,7 @@
 use mathlib.Core.List.{List, [], _∷_, _++_}
 use Prim.Native.Nat.{ℕ}
 use Rattle.base.specs.declared.Width.{Width}
+use Rattle.base.specs.declared.Width.the-variants.{W32, W64}
 use Rattle.base.specs.declared.Size.{Size}
 use Rattle.base.specs.declared.Size.the-variants.{S8, S16, S32, S64}
 use Rattle.x86_instructions.specs.Instructions.{wordOf}
@@ -32,7 +33,7 @@ operandsText (Instruction.AluImm o w d i) end = arithmeticText w d i
 operandsText (Instruction.ShiftImm o w d i) end = withConstantText (wordOf w) d i
 operandsText (Instruction.ShiftCl o w d) end = byCountText (wordOf w) d
 operandsText (Instruction.Unary o w r) end = registerText (wordOf w) r
-operandsText (Instruction.Movabs d i) end = withConstantText S64 d i
+operandsText (Instruction.MovImm w d i) end = withConstantText (wordOf w) d i
 operandsText (Instruction.Rol16 d i) end = withConstantText S16 d i
 operandsText (Instruction.Bswap w d) end = registerText (wordOf w) d
 operandsText (Instruction.Load z b d v) end = loadText z b d v
@@ -80,6 +81,11 @@ jumpName Jump.Jmp = ascii "jmp "
 jumpName Jump.Call = ascii "call "
 jumpName (Jump.Jcc c) = condName c
 
+-- B8+r: with eight bytes of constant it has a name of its own
+abbrev pub movImmName : Width → List ℕ
+movImmName W32 = ascii "mov "
+movImmName W64 = ascii "movabs "
+
 abbrev pub loadName : Size → List ℕ
 loadName S8 = ascii "movzx "
 loadName S16 = ascii "movzx "
@@ -94,7 +100,7 @@ mnemonicText (Instruction.AluImm o w d i) = aluName o
 mnemonicText (Instruction.ShiftImm o w d i) = shiftName o
 mnemonicText (Instruction.ShiftCl o w d) = shiftName o
 mnemonicText (Instruction.Unary o w r) = unaryName o
-mnemonicText (Instruction.Movabs d i) = ascii "movabs "
+mnemonicText (Instruction.MovImm w d i) = movImmName w
 mnemonicText (Instruction.Rol16 d i) = ascii "rol "
 mnemonicText (Instruction.Bswap w d) = ascii "bswap "
 mnemonicText (Instruction.Load z b d v) = loadName z

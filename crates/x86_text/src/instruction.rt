@@ -36,7 +36,7 @@ fn put_operands(out: &mut [u8], at: usize, i: Instruction, end: usize) -> usize
         Instruction::ShiftImm(_, w, d, n) => put_with_constant(out, at, size_of(w), d, n as u64),
         Instruction::ShiftCl(_, w, d) => put_by_count(out, at, size_of(w), d),
         Instruction::Unary(_, w, r) => put_register(out, at, size_of(w), r),
-        Instruction::Movabs(d, v) => put_with_constant(out, at, Size::S64, d, v),
+        Instruction::MovImm(w, d, v) => put_with_constant(out, at, size_of(w), d, v),
         Instruction::Rol16(d, n) => put_with_constant(out, at, Size::S16, d, n as u64),
         Instruction::Bswap(w, d) => put_register(out, at, size_of(w), d),
         Instruction::Load(z, b, d, v) => x86_operands::put_load(out, at, z, b, d, v),

@@ -1,7 +1,8 @@
 // The mnemonics, each with the space behind it.
 ghost use Rattle.text.specs.Lent.{Says};
-ghost use Rattle.x86_text.specs.Intel.{aluName, shiftName, unaryName, condName, jumpName, loadName, mnemonicText};
+ghost use Rattle.x86_text.specs.Intel.{aluName, shiftName, unaryName, condName, jumpName, movImmName, loadName, mnemonicText};
 use base::Size;
+use base::Width;
 use text::text::put_text;
 use x86_instructions::Alu;
 use x86_instructions::Cond;
@@ -72,6 +73,16 @@ fn put_jump(out: &mut [u8], at: usize, j: Jump) -> usize
     }
 }
 
+// B8+r: with eight bytes of constant it has a name of its own.
+fn put_mov_imm_name(out: &mut [u8], at: usize, w: Width) -> usize
+    ensures { λ k. ⌜ Says out at k (movImmName w) ⌝ }
+{
+    match w {
+        Width::W32 => put_text(out, at, b"mov "),
+        Width::W64 => put_text(out, at, b"movabs "),
+    }
+}
+
 fn put_load_name(out: &mut [u8], at: usize, z: Size) -> usize
     ensures { λ k. ⌜ Says out at k (loadName z) ⌝ }
 {
@@ -94,7 +105,7 @@ pub fn put_mnemonic(out: &mut [u8], at: usize, i: Instruction) -> usize
         Instruction::ShiftImm(o, _, _, _) => put_shift(out, at, o),
         Instruction::ShiftCl(o, _, _) => put_shift(out, at, o),
         Instruction::Unary(o, _, _) => put_unary(out, at, o),
-        Instruction::Movabs(_, _) => put_text(out, at, b"movabs "),
+        Instruction::MovImm(w, _, _) => put_mov_imm_name(out, at, w),
         Instruction::Rol16(_, _) => put_text(out, at, b"rol "),
         Instruction::Bswap(_, _) => put_text(out, at, b"bswap "),
         Instruction::Load(z, _, _, _) => put_load_name(out, at, z),

@@ -1,7 +1,8 @@
 //! Tests of the oracle itself: the worked programs, the facts known of the Rust,
-//! the listed jumps, the order of the refusals, standard mode, the streams, and
-//! the spread of the random cases.
+//! the listed jumps, the order of the refusals, standard and compact mode, the
+//! streams, and the spread of the random cases.
 
+mod compact;
 mod facts;
 mod jumps;
 mod order;
@@ -63,6 +64,18 @@ fn first_code(case: &Case) -> Vec<u8> {
         page.code[*field as usize..*field as usize + 4].fill(0);
     }
     slot_code(&page, 0).to_vec()
+}
+
+/// The locations of an accepted case, and its jumps: field, target and what the
+/// field holds.
+fn page_is(case: &Case, locations: &[u32], jumps: &[(u32, u32, i32)]) {
+    let page = accepted(case);
+    assert_eq!(page.locations, locations, "{case:02x?}");
+    let field = |at: u32| page.code[at as usize..at as usize + 4].try_into().expect("four bytes");
+    let held = page.fields.iter().map(|at| i32::from_le_bytes(field(*at)));
+    let listed = page.fields.iter().zip(&page.targets).zip(held);
+    let listed: Vec<_> = listed.map(|((field, target), held)| (*field, *target, held)).collect();
+    assert_eq!(listed, jumps, "{case:02x?}");
 }
 
 fn bytes(hex: &str) -> Vec<u8> {

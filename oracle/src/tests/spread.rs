@@ -1,8 +1,12 @@
 //! The random cases: the same for the same seed, and spread as they should be.
 
-use crate::ebpf::{self, LE, MOD32_IMM, MOD32_REG, MOV32_REG};
+use std::collections::HashMap;
+
+use crate::compact;
+use crate::ebpf::{self, *};
 use crate::generate::{Form, Generator};
 use crate::judge::Judge;
+use crate::slots::first_slots;
 use crate::standard::changes;
 use crate::stream::{Answer, Case};
 
@@ -66,6 +70,102 @@ fn every_third_case_is_in_standard_mode() {
         let other = generator.formed(form, SEED, at).expect("a case");
         assert_eq!(other == case, !case.standard);
     }
+}
+
+#[test]
+fn the_four_modes_come_often() {
+    let mut generator = Generator::new().expect("a generator");
+    // By standard mode, compact mode and five tables.
+    let mut counts = [[[0; 2]; 2]; 2];
+    for at in 0..240 {
+        let case = generator.case(SEED, at).expect("a case");
+        let [standard, compact, five] = [case.standard, case.compact, case.further_lens.is_some()];
+        counts[standard as usize][compact as usize][five as usize] += 1;
+        let form = Form { compact: false, ..Form::of(at) };
+        let other = generator.formed(form, SEED, at).expect("a case");
+        assert_eq!(other == case, !case.compact);
+    }
+    assert_eq!(counts, [[[40; 2]; 2], [[20; 2]; 2]]);
+}
+
+/// Where a slot loads a constant, and whether its dst is one of R8 to R15.
+type Place = (&'static str, bool);
+
+fn place_of(insn: &Insn) -> Place {
+    let place = match insn.opc {
+        LD_DW_IMM => "wide load",
+        MOV64_IMM => "move",
+        CALL => "helper",
+        DIV32_REG | MOD32_REG | DIV64_REG | MOD64_REG => "slot",
+        _ => "factor",
+    };
+    (place, [4, 5, 7, 8, 9].contains(&insn.dst))
+}
+
+/// The random cases in compact mode that are accepted, and their code's length.
+fn accepted_in_compact_mode() -> Vec<(Case, usize)> {
+    let mut generator = Generator::new().expect("a generator");
+    let mut judge = Judge::new();
+    let compact = (0..COUNT).filter(|at| Form::of(*at).compact);
+    let cases = compact.map(|at| generator.case(SEED, at).expect("a case"));
+    let with_len = |case: Case| match judge.answer(&case) {
+        Ok(Answer::Accepted(page)) => Some((case, page.code.len())),
+        _ => None,
+    };
+    cases.filter_map(with_len).collect()
+}
+
+#[test]
+fn compact_mode_is_asked_about_every_constant() {
+    let mut loads: HashMap<(Place, i64), u64> = HashMap::new();
+    let mut registers = [[0; 11]; 2];
+    for (case, _) in accepted_in_compact_mode() {
+        for slot in first_slots(&case.program) {
+            let Some(constant) = compact::constant(&case, slot) else { continue };
+            let insn = ebpf::get_insn(&case.program, slot);
+            *loads.entry((place_of(&insn), constant)).or_default() += 1;
+            if let Some(at) = [LD_DW_IMM, MOV64_IMM].iter().position(|opc| *opc == insn.opc) {
+                registers[at][insn.dst as usize] += 1;
+            }
+        }
+    }
+    let (max, min) = (i32::MAX as i64, i32::MIN as i64);
+    let wide = [0, 1, max, max + 1, 0xffff_ffff, 0x1_0000_0000, -1, min, min - 1];
+    let asked: [(&str, &[i64], u64); 5] = [
+        ("wide load", &wide, 20),
+        ("move", &[0, 1, max, -1, min], 20),
+        ("factor", &[1, max, -1, min], 20),
+        ("slot", &[0, 1, 2, 10, 100], 1),
+        ("helper", &wide, 20),
+    ];
+    for (place, constants, least) in asked {
+        for (constant, high) in constants.iter().flat_map(|at| [(*at, false), (*at, true)]) {
+            let count = loads.get(&((place, high), constant)).copied().unwrap_or(0);
+            assert!(count >= least, "{place}, {constant:#x}, high {high}: {count}");
+        }
+    }
+    assert!(loads.keys().any(|((place, _), number)| *place == "slot" && *number > 1_000));
+    assert!(registers.iter().flatten().all(|count| *count > 20), "{registers:?}");
+}
+
+#[test]
+fn compact_mode_has_pages_that_are_long_enough_in_it_alone() {
+    let cases = accepted_in_compact_mode();
+    let mut judge = Judge::new();
+    // Pages with a shortened constant, those that are too short without compact
+    // mode, and those of them with many bytes to spare in it.
+    let (mut pages, mut alone, mut ample) = (0, 0, 0);
+    for (case, len) in &cases {
+        pages += compact::changes(case) as usize;
+        let rbpf = judge.answer(&Case { compact: false, ..case.clone() });
+        if let Ok(Answer::Refused { number: 13, .. }) = rbpf {
+            alone += 1;
+            ample += (case.code_len as usize > len + 60) as usize;
+        }
+    }
+    assert!(pages * 100 / cases.len() > 60, "{pages} of {}", cases.len());
+    assert!(alone * 100 / cases.len() >= 2, "{alone} of {}", cases.len());
+    assert!(ample > 30, "{ample} of {alone}");
 }
 
 #[test]

@@ -1,7 +1,7 @@
 //! Standard mode: worked slots and pages, what stays as it is, rbpf's own slots
 //! of the same code, and the order of the refusals.
 
-use super::{accepted, ask, bytes, case_of, first_code, opcodes, refused, EXIT};
+use super::{accepted, ask, bytes, case_of, first_code, opcodes, page_is, refused, EXIT};
 use crate::corpus::{self, page_end, with_helper};
 use crate::ebpf::{self, *};
 use crate::generate::{Form, Generator};
@@ -59,22 +59,13 @@ fn every_worked_slot_has_its_bytes() {
     }
 }
 
-/// A row of slots, their locations, and the jumps: field, target and what the
-/// field holds.
-fn page_is(program: &[[u8; 8]], locations: &[u32], jumps: &[(u32, u32, i32)]) {
-    let page = accepted(&standard(program));
-    assert_eq!(page.locations, locations, "{program:02x?}");
-    let field = |at: u32| page.code[at as usize..at as usize + 4].try_into().expect("four bytes");
-    let held = page.fields.iter().map(|at| i32::from_le_bytes(field(*at)));
-    let listed = page.fields.iter().zip(&page.targets).zip(held);
-    let listed: Vec<_> = listed.map(|((field, target), held)| (*field, *target, held)).collect();
-    assert_eq!(listed, jumps, "{program:02x?}");
-}
-
 #[test]
 fn jumps_go_where_slots_now_stand() {
     let exit = ANCHOR as u32;
     let jump = |off| slot(JA, 0, 0, off, 0);
+    let page_is = |program: &[[u8; 8]], locations: &[u32], jumps: &[(u32, u32, i32)]| {
+        page_is(&standard(program), locations, jumps)
+    };
     // Over three bytes more, forward and back; without standard mode 0 and -6.
     page_is(&[jump(1), MOD_ZERO, EXIT], &[34, 39, 42, 0], &[(30, exit, 9), (35, 2, 3)]);
     page_is(&[EXIT, MOD_ZERO, jump(-3)], &[34, 35, 38, 0], &[(30, exit, 9), (39, 0, -9)]);
@@ -111,12 +102,12 @@ fn the_kinds_and_makers_are_those_without_standard_mode() {
 fn without_a_changed_slot_the_answer_is_rbpfs() {
     let mut judge = Judge::new();
     let mut generator = Generator::new().expect("a generator");
-    let form = |five_tables| Form { five_tables, standard: false };
+    let form = |five_tables| Form { five_tables, ..Form::default() };
     let random = (0..10_000).map(|at| generator.formed(form(at % 2 == 1), 31, at).expect("a case"));
     let list = corpus::cases().expect("the list").into_iter();
     let (mut all, mut refusals) = (0, [0; 15]);
     for case in list.chain(random).filter(|case| !changes(&case.program)) {
-        let without = Case { standard: false, ..case };
+        let without = Case { standard: false, compact: false, ..case };
         let rbpf = judge.answer(&without).expect("an answer");
         assert_eq!(judge.answer(&in_standard_mode(without)), Ok(rbpf.clone()));
         all += 1;
@@ -207,7 +198,7 @@ fn twin(of: [u8; 8]) -> [u8; 8] {
 /// A random case in which no modulo by a register is at 32 bits, and the same
 /// case of twins, which is not in standard mode.
 fn case_and_twin(generator: &mut Generator, at: u64) -> (Case, Case) {
-    let form = Form { five_tables: at % 2 == 1, standard: true };
+    let form = Form { five_tables: at % 2 == 1, standard: true, compact: false };
     let mut case = generator.formed(form, 32, at).expect("a case");
     let mut twins = Case { standard: false, ..case.clone() };
     let mut next = 0;
@@ -370,10 +361,12 @@ fn what_a_full_page_comes_before_and_after() {
 // ---- the list ----------------------------------------------------------------
 
 #[test]
-fn the_list_has_standard_mode_behind_all_other_cases() {
+fn the_list_has_standard_mode_behind_all_earlier_cases() {
     let cases = corpus::cases().expect("the list");
     let behind = cases.iter().position(|case| case.standard);
     let behind = &cases[behind.expect("a case in standard mode")..];
+    let compact = behind.iter().position(|case| case.compact);
+    let behind = &behind[..compact.expect("a case in compact mode")];
     assert!(behind.iter().all(|case| case.standard));
     let mut judge = Judge::new();
     // Of the answers with a changed slot, by table count.

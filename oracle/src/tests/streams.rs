@@ -13,6 +13,7 @@ fn sample() -> Case {
         use_mbuff: true,
         update_data_ptr: false,
         standard: false,
+        compact: false,
         code_len: u32::MAX,
         table_lens: [1, 2, 3],
         further_lens: None,
@@ -173,16 +174,17 @@ fn parts_that_do_not_fill_the_length_are_malformed() {
 }
 
 #[test]
-fn bits_3_to_6_of_the_flags_are_malformed() {
+fn bits_4_to_6_of_the_flags_are_malformed() {
     for case in [sample(), sample_of_five()] {
         let good = written(&case);
-        for flags in (0..=u8::MAX).filter(|flags| flags & 0x78 != 0) {
+        for flags in (0..=u8::MAX).filter(|flags| flags & 0x70 != 0) {
             let mut stream = good.clone();
             stream[4] = flags;
             let said = complaint(&stream, 0);
-            assert_eq!(said, "case 0 is malformed: it has a flag other than bits 0, 1, 2 and 7");
+            let sentence = "it has a flag other than bits 0, 1, 2, 3 and 7";
+            assert_eq!(said, format!("case 0 is malformed: {sentence}"));
         }
-        for flags in 0..8 {
+        for flags in 0..16 {
             let mut stream = good.clone();
             stream[4] = stream[4] & 0x80 | flags;
             assert!(case_records(&stream[..]).next_case().is_ok());
@@ -197,7 +199,10 @@ fn each_flag_has_its_bit() {
         (1, Case { use_mbuff: true, ..sample_of_none() }),
         (2, Case { update_data_ptr: true, ..sample_of_none() }),
         (4, Case { standard: true, ..sample_of_none() }),
+        (8, Case { compact: true, ..sample_of_none() }),
+        (12, Case { standard: true, compact: true, ..sample_of_none() }),
         (0x87, Case { use_mbuff: true, update_data_ptr: true, standard: true, ..sample_of_five() }),
+        (0x8b, Case { use_mbuff: true, update_data_ptr: true, compact: true, ..sample_of_five() }),
     ];
     for (byte, case) in flags {
         let stream = written(&case);

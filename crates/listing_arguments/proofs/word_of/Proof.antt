@@ -77,8 +77,8 @@ is-requires-5 c κs = search needs
 returns-5 : tie.Need-returns-5
 unfolding wordOf
 returns-5 c =
-    let not-page = c .before .before .before in
-    let not-standard = not-page .before .before .before in
+    let not-compact = c .before .before .before in
+    let not-standard = not-compact .before .before .before in
     let not-update = not-standard .before .before .before in
     let not-mbuff = not-update .before .before .before in
     rw (
@@ -88,8 +88,8 @@ returns-5 c =
       not-update .if2 .left,
       ← not-standard .before .is3 .ensures,
       not-standard .if3 .left,
-      ← not-page .before .is4 .ensures,
-      not-page .if4 .left,
+      ← not-compact .before .is4 .ensures,
+      not-compact .if4 .left,
       ← c .before .is5 .ensures,
       c .if5 .taken,
     )
@@ -103,9 +103,9 @@ is-requires-6 c κs = search needs
 returns-6 : tie.Need-returns-6
 unfolding wordOf
 returns-6 c =
-    let not-helper = c .before .before .before in
-    let not-page = not-helper .before .before .before in
-    let not-standard = not-page .before .before .before in
+    let not-page = c .before .before .before in
+    let not-compact = not-page .before .before .before in
+    let not-standard = not-compact .before .before .before in
     let not-update = not-standard .before .before .before in
     let not-mbuff = not-update .before .before .before in
     rw (
@@ -115,21 +115,27 @@ returns-6 c =
       not-update .if2 .left,
       ← not-standard .before .is3 .ensures,
       not-standard .if3 .left,
-      ← not-page .before .is4 .ensures,
-      not-page .if4 .left,
-      ← not-helper .before .is5 .ensures,
-      not-helper .if5 .left,
+      ← not-compact .before .is4 .ensures,
+      not-compact .if4 .left,
+      ← not-page .before .is5 .ensures,
+      not-page .if5 .left,
       ← c .before .is6 .ensures,
       c .if6 .taken,
     )
 
+slice-aggregate-is-7 : tie.Need-slice-aggregate-is-7
+slice-aggregate-is-7 c = search needs
+
+is-requires-7 : tie.Need-is-requires-7
+is-requires-7 c κs = search needs
+
 returns-7 : tie.Need-returns-7
 unfolding wordOf
 returns-7 c =
-    let not-help = c .before in
-    let not-helper = not-help .before .before .before in
+    let not-helper = c .before .before .before in
     let not-page = not-helper .before .before .before in
-    let not-standard = not-page .before .before .before in
+    let not-compact = not-page .before .before .before in
+    let not-standard = not-compact .before .before .before in
     let not-update = not-standard .before .before .before in
     let not-mbuff = not-update .before .before .before in
     rw (
@@ -139,26 +145,24 @@ returns-7 c =
       not-update .if2 .left,
       ← not-standard .before .is3 .ensures,
       not-standard .if3 .left,
-      ← not-page .before .is4 .ensures,
-      not-page .if4 .left,
-      ← not-helper .before .is5 .ensures,
-      not-helper .if5 .left,
-      ← not-help .before .is6 .ensures,
-      not-help .if6 .left,
-      first-none _ (c .if7 .taken),
+      ← not-compact .before .is4 .ensures,
+      not-compact .if4 .left,
+      ← not-page .before .is5 .ensures,
+      not-page .if5 .left,
+      ← not-helper .before .is6 .ensures,
+      not-helper .if6 .left,
+      ← c .before .is7 .ensures,
+      c .if7 .taken,
     )
-
-shared-slice-read-if8 : tie.Need-shared-slice-read-if8
-shared-slice-read-if8 c = search needs
 
 returns-8 : tie.Need-returns-8
 unfolding wordOf
 returns-8 c =
-    let not-empty = c .before .before in
-    let not-help = not-empty .before in
+    let not-help = c .before in
     let not-helper = not-help .before .before .before in
     let not-page = not-helper .before .before .before in
-    let not-standard = not-page .before .before .before in
+    let not-compact = not-page .before .before .before in
+    let not-standard = not-compact .before .before .before in
     let not-update = not-standard .before .before .before in
     let not-mbuff = not-update .before .before .before in
     rw (
@@ -168,15 +172,19 @@ returns-8 c =
       not-update .if2 .left,
       ← not-standard .before .is3 .ensures,
       not-standard .if3 .left,
-      ← not-page .before .is4 .ensures,
-      not-page .if4 .left,
-      ← not-helper .before .is5 .ensures,
-      not-helper .if5 .left,
-      ← not-help .before .is6 .ensures,
-      not-help .if6 .left,
-      first-some _ 0 (not-empty .if7 .left),
-      eq-eqb _ _ (c .if8 .taken),
+      ← not-compact .before .is4 .ensures,
+      not-compact .if4 .left,
+      ← not-page .before .is5 .ensures,
+      not-page .if5 .left,
+      ← not-helper .before .is6 .ensures,
+      not-helper .if6 .left,
+      ← not-help .before .is7 .ensures,
+      not-help .if7 .left,
+      first-none _ (c .if8 .taken),
     )
+
+shared-slice-read-if9 : tie.Need-shared-slice-read-if9
+shared-slice-read-if9 c = search needs
 
 returns-9 : tie.Need-returns-9
 unfolding wordOf
@@ -185,7 +193,8 @@ returns-9 c =
     let not-help = not-empty .before in
     let not-helper = not-help .before .before .before in
     let not-page = not-helper .before .before .before in
-    let not-standard = not-page .before .before .before in
+    let not-compact = not-page .before .before .before in
+    let not-standard = not-compact .before .before .before in
     let not-update = not-standard .before .before .before in
     let not-mbuff = not-update .before .before .before in
     rw (
@@ -195,14 +204,46 @@ returns-9 c =
       not-update .if2 .left,
       ← not-standard .before .is3 .ensures,
       not-standard .if3 .left,
-      ← not-page .before .is4 .ensures,
-      not-page .if4 .left,
-      ← not-helper .before .is5 .ensures,
-      not-helper .if5 .left,
-      ← not-help .before .is6 .ensures,
-      not-help .if6 .left,
-      first-some _ 0 (not-empty .if7 .left),
-      ne-eqb _ _ (c .if8 .left),
+      ← not-compact .before .is4 .ensures,
+      not-compact .if4 .left,
+      ← not-page .before .is5 .ensures,
+      not-page .if5 .left,
+      ← not-helper .before .is6 .ensures,
+      not-helper .if6 .left,
+      ← not-help .before .is7 .ensures,
+      not-help .if7 .left,
+      first-some _ 0 (not-empty .if8 .left),
+      eq-eqb _ _ (c .if9 .taken),
+    )
+
+returns-10 : tie.Need-returns-10
+unfolding wordOf
+returns-10 c =
+    let not-empty = c .before .before in
+    let not-help = not-empty .before in
+    let not-helper = not-help .before .before .before in
+    let not-page = not-helper .before .before .before in
+    let not-compact = not-page .before .before .before in
+    let not-standard = not-compact .before .before .before in
+    let not-update = not-standard .before .before .before in
+    let not-mbuff = not-update .before .before .before in
+    rw (
+      ← not-mbuff .before .is .ensures,
+      not-mbuff .if1 .left,
+      ← not-update .before .is2 .ensures,
+      not-update .if2 .left,
+      ← not-standard .before .is3 .ensures,
+      not-standard .if3 .left,
+      ← not-compact .before .is4 .ensures,
+      not-compact .if4 .left,
+      ← not-page .before .is5 .ensures,
+      not-page .if5 .left,
+      ← not-helper .before .is6 .ensures,
+      not-helper .if6 .left,
+      ← not-help .before .is7 .ensures,
+      not-help .if7 .left,
+      first-some _ 0 (not-empty .if8 .left),
+      ne-eqb _ _ (c .if9 .left),
     )
 
 pub word-of-spec : {M : Type 1} → statement M
@@ -227,7 +268,10 @@ word-of-spec =
     slice-aggregate-is-6
     is-requires-6
     returns-6
+    slice-aggregate-is-7
+    is-requires-7
     returns-7
-    shared-slice-read-if8
     returns-8
-    returns-9)
+    shared-slice-read-if9
+    returns-9
+    returns-10)

@@ -1,8 +1,11 @@
-use native.Mathlib.Omega.{arith}
 use lib.ListN.{length-take}
+use native.Mathlib.Omega.{arith}
 use borrow.Author.Needs.{needs}
 use Rattle.program_listing.proofs.list_lent.Statement.{statement}
 use Rattle.program_listing.proofs.list_lent.Tie as tie
+
+flags-of-requires : tie.Need-flags-of-requires
+flags-of-requires c κs = search needs
 
 array-borrow-prefix-page : tie.Need-array-borrow-prefix-page
 array-borrow-prefix-page c = search needs
@@ -28,6 +31,9 @@ slice-aggregate-list-filter-6 c = search needs
 list-filter-requires : tie.Need-list-filter-requires
 list-filter-requires c κs = search needs
 
+list-saving-requires : tie.Need-list-saving-requires
+list-saving-requires c κs = search needs
+
 returns : tie.Need-returns
 returns c = search needs
 
@@ -35,6 +41,7 @@ pub list-lent-spec : {M : Type 1} → statement M
 list-lent-spec =
     tie.close
     (tie.spec
+    flags-of-requires
     array-borrow-prefix-page
     slice-aggregate-list-filter
     slice-aggregate-list-filter-2
@@ -43,4 +50,5 @@ list-lent-spec =
     slice-aggregate-list-filter-5
     slice-aggregate-list-filter-6
     list-filter-requires
+    list-saving-requires
     returns)

@@ -7,77 +7,23 @@ use Rattle.program_texts.proofs.show_case.Tie as tie
 least-requires : tie.Need-least-requires
 least-requires c κs = search needs
 
-least-requires-2 : tie.Need-least-requires-2
-least-requires-2 c κs = search needs
+sub-show-filter : tie.Need-sub-show-filter
+sub-show-filter c = search needs
 
-least-requires-3 : tie.Need-least-requires-3
-least-requires-3 c κs = search needs
+part-show-filter-start : tie.Need-part-show-filter-start
+part-show-filter-start c = search needs
 
-least-requires-4 : tie.Need-least-requires-4
-least-requires-4 c κs = search needs
+part-show-filter-end : tie.Need-part-show-filter-end
+part-show-filter-end c = search needs
 
-least-requires-5 : tie.Need-least-requires-5
-least-requires-5 c κs = search needs
+slice-aggregate-show-filter : tie.Need-slice-aggregate-show-filter
+slice-aggregate-show-filter c = simp length-take (omega arith)
 
-least-requires-6 : tie.Need-least-requires-6
-least-requires-6 c κs = search needs
+slice-aggregate-show-filter-2 : tie.Need-slice-aggregate-show-filter-2
+slice-aggregate-show-filter-2 c = simp length-take (omega arith)
 
-sub-list-filter : tie.Need-sub-list-filter
-sub-list-filter c = search needs
-
-part-list-filter-start : tie.Need-part-list-filter-start
-part-list-filter-start c = search needs
-
-part-list-filter-end : tie.Need-part-list-filter-end
-part-list-filter-end c = search needs
-
-slice-aggregate-list-filter : tie.Need-slice-aggregate-list-filter
-slice-aggregate-list-filter c = simp length-take (omega arith)
-
-slice-aggregate-list-filter-2 : tie.Need-slice-aggregate-list-filter-2
-slice-aggregate-list-filter-2 c = simp length-take (omega arith)
-
-array-borrow-prefix-page : tie.Need-array-borrow-prefix-page
-array-borrow-prefix-page c = search needs
-
-slice-aggregate-list-filter-3 : tie.Need-slice-aggregate-list-filter-3
-slice-aggregate-list-filter-3 c = simp length-take (omega arith)
-
-array-borrow-prefix-locations : tie.Need-array-borrow-prefix-locations
-array-borrow-prefix-locations c = search needs
-
-slice-aggregate-list-filter-4 : tie.Need-slice-aggregate-list-filter-4
-slice-aggregate-list-filter-4 c = simp length-take (omega arith)
-
-array-borrow-prefix-fields : tie.Need-array-borrow-prefix-fields
-array-borrow-prefix-fields c = search needs
-
-slice-aggregate-list-filter-5 : tie.Need-slice-aggregate-list-filter-5
-slice-aggregate-list-filter-5 c = simp length-take (omega arith)
-
-array-borrow-prefix-targets : tie.Need-array-borrow-prefix-targets
-array-borrow-prefix-targets c = search needs
-
-slice-aggregate-list-filter-6 : tie.Need-slice-aggregate-list-filter-6
-slice-aggregate-list-filter-6 c = simp length-take (omega arith)
-
-array-borrow-prefix-kinds : tie.Need-array-borrow-prefix-kinds
-array-borrow-prefix-kinds c = search needs
-
-slice-aggregate-list-filter-7 : tie.Need-slice-aggregate-list-filter-7
-slice-aggregate-list-filter-7 c = simp length-take (omega arith)
-
-array-borrow-prefix-makers : tie.Need-array-borrow-prefix-makers
-array-borrow-prefix-makers c = search needs
-
-slice-aggregate-list-filter-8 : tie.Need-slice-aggregate-list-filter-8
-slice-aggregate-list-filter-8 c = simp length-take (omega arith)
-
-list-filter-requires : tie.Need-list-filter-requires
-list-filter-requires c κs = search needs
-
-show-answer-requires : tie.Need-show-answer-requires
-show-answer-requires c κs = search needs
+show-filter-requires : tie.Need-show-filter-requires
+show-filter-requires c κs = search needs
 
 returns : tie.Need-returns
 returns c = search needs
@@ -87,28 +33,10 @@ show-case-spec =
     tie.close
     (tie.spec
     least-requires
-    least-requires-2
-    least-requires-3
-    least-requires-4
-    least-requires-5
-    least-requires-6
-    sub-list-filter
-    part-list-filter-start
-    part-list-filter-end
-    slice-aggregate-list-filter
-    slice-aggregate-list-filter-2
-    array-borrow-prefix-page
-    slice-aggregate-list-filter-3
-    array-borrow-prefix-locations
-    slice-aggregate-list-filter-4
-    array-borrow-prefix-fields
-    slice-aggregate-list-filter-5
-    array-borrow-prefix-targets
-    slice-aggregate-list-filter-6
-    array-borrow-prefix-kinds
-    slice-aggregate-list-filter-7
-    array-borrow-prefix-makers
-    slice-aggregate-list-filter-8
-    list-filter-requires
-    show-answer-requires
+    sub-show-filter
+    part-show-filter-start
+    part-show-filter-end
+    slice-aggregate-show-filter
+    slice-aggregate-show-filter-2
+    show-filter-requires
     returns)

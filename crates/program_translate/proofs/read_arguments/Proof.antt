@@ -4,10 +4,10 @@ use Rattle.program_translate.proofs.read_arguments.Statement.{statement
 use Rattle.program_translate.proofs.read_arguments.Tie as tie
 
 abbrev Inv-loop : tie.InvT-loop
-Inv-loop count standard₀ i₀ standard i = Unit {0}
+Inv-loop count mode₀ i₀ mode i = Unit {0}
 
 abbrev μ-loop : tie.MeasureT-loop
-μ-loop count standard₀ i₀ standard i = count - i
+μ-loop count mode₀ i₀ mode i = count - i
 
 arg-count-requires : tie.Need-arg-count-requires Inv-loop μ-loop
 arg-count-requires c κs = search needs
@@ -15,8 +15,14 @@ arg-count-requires c κs = search needs
 loop-holds : tie.Need-loop-holds Inv-loop μ-loop
 loop-holds c = search needs
 
-is-standard-requires : tie.Need-is-standard-requires Inv-loop μ-loop
-is-standard-requires c κs = search needs
+with-argument-requires : tie.Need-with-argument-requires Inv-loop μ-loop
+with-argument-requires c κs = search needs
+
+enum-known-more : tie.Need-enum-known-more Inv-loop μ-loop
+enum-known-more c = search needs
+
+enum-told : tie.Need-enum-told Inv-loop μ-loop
+enum-told c = search needs
 
 returns : tie.Need-returns Inv-loop μ-loop
 returns c = search needs
@@ -41,7 +47,9 @@ read-arguments-spec =
     μ-loop
     arg-count-requires
     loop-holds
-    is-standard-requires
+    with-argument-requires
+    enum-known-more
+    enum-told
     returns
     add-i
     loop-less

@@ -68,35 +68,39 @@ shared-slice-read-t27 : tie.Need-shared-slice-read-t27
 unfolding programAt
 shared-slice-read-t27 c = omega (arith, c .before .before .before .before .before .before .before .before .pre)
 
+shared-slice-read-t32 : tie.Need-shared-slice-read-t32
+unfolding programAt
+shared-slice-read-t32 c = omega (arith, c .before .before .before .before .before .before .before .before .before .pre)
+
 count-at-requires-3 : tie.Need-count-at-requires-3
 unfolding programAt lengthsEnd
-count-at-requires-3 c κs = omega (arith, c .before .before .before .before .before .before .before .before .pre)
+count-at-requires-3 c κs = omega (arith, c .before .before .before .before .before .before .before .before .before .pre)
 
 count-at-requires-4 : tie.Need-count-at-requires-4
 unfolding programAt lengthsEnd
-count-at-requires-4 c κs = omega (arith, c .before .before .before .before .before .before .before .before .before .pre)
+count-at-requires-4 c κs = omega (arith, c .before .before .before .before .before .before .before .before .before .before .pre)
 
 count-at-requires-5 : tie.Need-count-at-requires-5
 unfolding programAt lengthsEnd
-count-at-requires-5 c κs = omega (arith, c .before .before .before .before .before .before .before .before .before .before .pre)
+count-at-requires-5 c κs = omega (arith, c .before .before .before .before .before .before .before .before .before .before .before .pre)
 
 count-at-requires-6 : tie.Need-count-at-requires-6
 unfolding programAt lengthsEnd
-count-at-requires-6 c κs = omega (arith, c .before .before .before .before .before .before .before .before .before .before .before .pre)
+count-at-requires-6 c κs = omega (arith, c .before .before .before .before .before .before .before .before .before .before .before .before .pre)
 
 further-length-requires : tie.Need-further-length-requires
 unfolding programAt
-further-length-requires c κs = (omega arith, omega (arith, c .before .before .before .before .before .before .before .before .before .before .before .before .pre))
+further-length-requires c κs = (omega arith, omega (arith, c .before .before .before .before .before .before .before .before .before .before .before .before .before .pre))
 
 further-length-requires-2 : tie.Need-further-length-requires-2
 unfolding programAt
-further-length-requires-2 c κs = (omega arith, omega (arith, c .before .before .before .before .before .before .before .before .before .before .before .before .before .pre))
+further-length-requires-2 c κs = (omega arith, omega (arith, c .before .before .before .before .before .before .before .before .before .before .before .before .before .before .pre))
 
 returns : tie.Need-returns
 unfolding partsOf idsIn addressesIn programAt
 returns c =
     let tables = c .before .before in
-    let addresses = tables .before .before .before .before .before .before .before .before in
+    let addresses = tables .before .before .before .before .before .before .before .before .before in
     let ids = addresses .before in
     rw (
       c .further-length2 .ensures,
@@ -105,10 +109,8 @@ returns c =
       tables .before .count-at5 .ensures .0,
       tables .before .before .count-at4 .ensures .0,
       tables .before .before .before .count-at3 .ensures .0,
-      addresses .count-at2 .ensures .0,
-      ids .count-at .ensures .0,
-      ids .before .lengths-end .ensures .0,
     )
+    (rw (addresses .count-at2 .ensures .0, ids .count-at .ensures .0, ids .before .lengths-end .ensures .0))
 
 pub parts-of-spec : {M : Type 1} → statement M
 parts-of-spec =
@@ -131,6 +133,7 @@ parts-of-spec =
     shared-slice-read-t17
     shared-slice-read-t22
     shared-slice-read-t27
+    shared-slice-read-t32
     count-at-requires-3
     count-at-requires-4
     count-at-requires-5

@@ -3,6 +3,12 @@ use borrow.Author.Needs.{needs}
 use Rattle.cases_run.proofs.run.run_case.Statement.{statement}
 use Rattle.cases_run.proofs.run.run_case.Tie as tie
 
+flags-of-requires : tie.Need-flags-of-requires
+flags-of-requires c κs = search needs
+
+mode-of-requires : tie.Need-mode-of-requires
+mode-of-requires c κs = search needs
+
 least-requires : tie.Need-least-requires
 least-requires c κs = search needs
 
@@ -33,13 +39,13 @@ part-run-lent-end c = search needs
 slice-aggregate-run-lent : tie.Need-slice-aggregate-run-lent
 slice-aggregate-run-lent c =
     let lengths = c .before .before .before .before .before .before .before in
-    let asked = lengths .before .before .before .before .before .before .before .before .before .before .before in
+    let asked = lengths .before .before .before .before .before .before .before .before .before .before .before .before .before in
     simp (length-take-le, asked .pre .0)
 
 slice-aggregate-run-lent-2 : tie.Need-slice-aggregate-run-lent-2
 slice-aggregate-run-lent-2 c =
     let lengths = c .before .before .before .before .before .before .before .before in
-    let asked = lengths .before .before .before .before .before .before .before .before .before .before .before in
+    let asked = lengths .before .before .before .before .before .before .before .before .before .before .before .before .before in
     simp (length-take-le, asked .pre .1 .0)
 
 slice-relend-prefix-run-lent : tie.Need-slice-relend-prefix-run-lent
@@ -109,6 +115,8 @@ pub run-case-spec : {M : Type 1} → statement M
 run-case-spec =
     tie.close
     (tie.spec
+    flags-of-requires
+    mode-of-requires
     least-requires
     least-requires-2
     least-requires-3

@@ -30,7 +30,7 @@ emit-jcc-requires c κs =
       start .pre .0 .small,
       emit-tested .ensures .next,
       length-blanks
-          (tested (start .args .slot .number) (start .args .width) (start .args .src)),
+          (tested (start .args .mode) (start .args .slot .number) (start .args .width) (start .args .src)),
     )
 
 emit-alu-requires : tie.Need-emit-alu-requires
@@ -43,7 +43,7 @@ emit-alu-requires c κs =
         start .pre .0 .small,
         emit-tested .ensures .next,
         length-blanks
-            (tested (start .args .slot .number) (start .args .width) (start .args .src)),
+            (tested (start .args .mode) (start .args .slot .number) (start .args .width) (start .args .src)),
         c .before .before .before .emit-jcc .ensures .next,
       ),
       search needs,
@@ -60,7 +60,7 @@ emit-jmp-requires c κs =
       start .pre .0 .small,
       at-emit-tested .emit-tested .ensures .next,
       length-blanks
-          (tested (start .args .slot .number) (start .args .width) (start .args .src)),
+          (tested (start .args .mode) (start .args .slot .number) (start .args .width) (start .args .src)),
       emit-jcc .ensures .next,
       c .before .before .before .emit-alu .ensures .next,
     )
@@ -94,7 +94,7 @@ record-jump-requires c κs =
             start .pre .0 .small,
             at-emit-tested .emit-tested .ensures .next,
             length-blanks
-                (tested (start .args .slot .number) (start .args .width) (start .args .src)),
+                (tested (start .args .mode) (start .args .slot .number) (start .args .width) (start .args .src)),
             at-emit-jcc .emit-jcc .ensures .next,
             at-emit-alu .emit-alu .ensures .next,
             emit-jmp .ensures .next,
@@ -133,10 +133,10 @@ returns c =
     let at-skip-of = at-emit-jcc .before in
     let at-emit-tested = at-skip-of .before .before .before .before in
     let start = at-emit-tested .before .before .before .before .before .before .before in
-    jumped ((tested (start .args .slot .number) (start .args .width) (start .args .src)) ++
+    jumped ((tested (start .args .mode) (start .args .slot .number) (start .args .width) (start .args .src)) ++
     (jump (jcc JNE) (near (size (divByZero (start .args .slot .number) (start .args .dst)))) ∷ op (alu XOR W32 (start .args .dst) (start .args .dst)) ∷
     [])) jmp refl (rw (
-      blanks-append (tested (start .args .slot .number) (start .args .width) (start .args .src))
+      blanks-append (tested (start .args .mode) (start .args .slot .number) (start .args .width) (start .args .src))
           (jump (jcc JNE) (near (size (divByZero (start .args .slot .number) (start .args .dst)))) ∷ op (alu XOR W32 (start .args .dst) (start .args .dst))
           ∷ jump jmp (to (start .args .slot .number + 1)) ∷ []),
       ← at-skip-of .skip-of .ensures,

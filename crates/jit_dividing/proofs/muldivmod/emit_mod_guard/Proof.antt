@@ -24,7 +24,7 @@ emit-jcc-requires c κs =
       start .pre .0 .small,
       c .before .before .before .emit-tested .ensures .next,
       length-blanks
-          (tested (start .args .slot .number) (start .args .width) (start .args .src)),
+          (tested (start .args .mode) (start .args .slot .number) (start .args .width) (start .args .src)),
     )
 
 cast-record-jump : tie.Need-cast-record-jump
@@ -48,7 +48,7 @@ record-jump-requires c κs =
             start .pre .0 .small,
             at-emit-tested .emit-tested .ensures .next,
             length-blanks
-                (tested (start .args .slot .number) (start .args .width) (start .args .src)),
+                (tested (start .args .mode) (start .args .slot .number) (start .args .width) (start .args .src)),
             emit-jcc .ensures .next,
           ),
           omega (arith, start .pre .1 .1),
@@ -77,8 +77,8 @@ returns c =
     let at-emit-jcc = c .before .before .before .before .before .before .before .before .before .before .before .before .before .before .before .before in
     let at-emit-tested = at-emit-jcc .before .before .before .before in
     let start = at-emit-tested .before .before .before .before .before .before .before in
-    jumped (tested (start .args .slot .number) (start .args .width) (start .args .src)) (jcc JE) refl
-    (rw (blanks-append (tested (start .args .slot .number) (start .args .width) (start .args .src))
+    jumped (tested (start .args .mode) (start .args .slot .number) (start .args .width) (start .args .src)) (jcc JE) refl
+    (rw (blanks-append (tested (start .args .mode) (start .args .slot .number) (start .args .width) (start .args .src))
     (jump (jcc JE) (to (start .args .slot .number + 1)) ∷ [])) (then (at-emit-tested .emit-tested .ensures) (last (at-emit-jcc .emit-jcc .ensures))))
     (record-jump .ensures)
 

@@ -2,6 +2,7 @@ use Rattle.x86.specs.Registers.{RCX}
 use Rattle.base.specs.declared.Width.the-variants.{W64}
 use Rattle.x86.specs.Instr.{op, aluImm, MOV}
 use mathlib.Core.List.{_∷_}
+use Rattle.jit.specs.Constants.{loaded}
 use Rattle.jit.specs.MulDivMod.{saves, operated}
 use Rattle.x86.proofs.CodeLaws.{blanks-append, size-append, length-blanks}
 use borrow.Author.Tests.{eq-eqb, ne-eqb}
@@ -28,11 +29,11 @@ emit-saves-requires c κs =
       arith,
       room,
       size-append (saves (start .args .dst))
-          (op (aluImm MOV W64 RCX (start .args .imm)) ∷ operated (start .args .op) (start .args .width) (start .args .dst)),
+          (op (loaded (start .args .mode) (aluImm MOV W64 RCX (start .args .imm))) ∷ operated (start .args .op) (start .args .width) (start .args .dst)),
     )
 
-emit-alu-imm32-requires : tie.Need-emit-alu-imm32-requires
-emit-alu-imm32-requires c κs =
+emit-load-signed-requires : tie.Need-emit-load-signed-requires
+emit-load-signed-requires c κs =
     let if1 = c .before .before .before .before .before .if1 in
     let start = c .before .before .before .before .before .before .before in
     let room = rw (ne-eqb _ _ (if1 .left)) at (start .pre .0) in (
@@ -40,7 +41,7 @@ emit-alu-imm32-requires c κs =
         arith,
         room,
         size-append (saves (start .args .dst))
-            (op (aluImm MOV W64 RCX (start .args .imm)) ∷ operated (start .args .op) (start .args .width) (start .args .dst)),
+            (op (loaded (start .args .mode) (aluImm MOV W64 RCX (start .args .imm))) ∷ operated (start .args .op) (start .args .width) (start .args .dst)),
         c .before .before .before .emit-saves .ensures .next,
         length-blanks (saves (start .args .dst)),
       ),
@@ -57,10 +58,10 @@ emit-operated-requires c κs =
         arith,
         room,
         size-append (saves (start .args .dst))
-            (op (aluImm MOV W64 RCX (start .args .imm)) ∷ operated (start .args .op) (start .args .width) (start .args .dst)),
+            (op (loaded (start .args .mode) (aluImm MOV W64 RCX (start .args .imm))) ∷ operated (start .args .op) (start .args .width) (start .args .dst)),
         emit-saves .ensures .next,
         length-blanks (saves (start .args .dst)),
-        c .before .before .before .emit-alu-imm32 .ensures .next,
+        c .before .before .before .emit-load-signed .ensures .next,
       ),
       search needs,
     )
@@ -70,16 +71,16 @@ same-length-2 c = search needs
 
 returns-2 : tie.Need-returns-2
 returns-2 c =
-    let emit-alu-imm32 = c .before .before .before .before .before .before .emit-alu-imm32 in
+    let emit-load-signed = c .before .before .before .before .before .before .emit-load-signed in
     let at-emit-saves = c .before .before .before .before .before .before .before .before .before .before in
     let at-if1 = at-emit-saves .before .before in
     let start = at-if1 .before .before in
     rw (
       ne-eqb _ _ (at-if1 .if1 .left),
       blanks-append (saves (start .args .dst))
-          (op (aluImm MOV W64 RCX (start .args .imm)) ∷ operated (start .args .op) (start .args .width) (start .args .dst)),
+          (op (loaded (start .args .mode) (aluImm MOV W64 RCX (start .args .imm))) ∷ operated (start .args .op) (start .args .width) (start .args .dst)),
     )
-    (then (at-emit-saves .emit-saves .ensures) (then (emit-alu-imm32 .ensures) (c .before .before .emit-operated .ensures)))
+    (then (at-emit-saves .emit-saves .ensures) (then (emit-load-signed .ensures) (c .before .before .emit-operated .ensures)))
 
 pub emit-muldivmod-imm-spec : {M : Type 1} → statement M
 emit-muldivmod-imm-spec =
@@ -89,7 +90,7 @@ emit-muldivmod-imm-spec =
     same-length
     returns
     emit-saves-requires
-    emit-alu-imm32-requires
+    emit-load-signed-requires
     emit-operated-requires
     same-length-2
     returns-2)

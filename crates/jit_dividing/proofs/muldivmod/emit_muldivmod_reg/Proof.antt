@@ -9,7 +9,7 @@ emit-guard-requires c κs =
     let start = c .before .before .before .before .before .before .before .before .before .before in
     let a = start .args in
     let room = start .pre .0 in
-    let whole = sizes (a .op) (a .slot .number) (a .width) (a .src) (a .dst) in
+    let whole = sizes (a .mode) (a .op) (a .slot .number) (a .width) (a .src) (a .dst) in
     (record { page = omega (arith, room .page, whole); entry = room .entry; small = room .small }, start .pre .1)
 
 emit-saves-requires : tie.Need-emit-saves-requires
@@ -17,7 +17,7 @@ emit-saves-requires c κs =
     let at-emit-guard = c .before .before .before .before .before .before .before .before .before .before .before in
     let start = at-emit-guard .before .before .before .before .before .before .before .before .before .before .before in
     let a = start .args in
-    let whole = sizes (a .op) (a .slot .number) (a .width) (a .src) (a .dst) in
+    let whole = sizes (a .mode) (a .op) (a .slot .number) (a .width) (a .src) (a .dst) in
     omega (arith, start .pre .0 .page, start .pre .0 .small, whole, at-emit-guard .emit-guard .ensures .wrote .next)
 
 emit-alu-requires : tie.Need-emit-alu-requires
@@ -26,7 +26,7 @@ emit-alu-requires c κs =
     let at-emit-guard = c .before .before .before .before .before .before .before .before .before .before .before .before .before .before .before in
     let start = at-emit-guard .before .before .before .before .before .before .before .before .before .before .before in
     let a = start .args in
-    let whole = sizes (a .op) (a .slot .number) (a .width) (a .src) (a .dst) in
+    let whole = sizes (a .mode) (a .op) (a .slot .number) (a .width) (a .src) (a .dst) in
     let guard-next = at-emit-guard .emit-guard .ensures .wrote .next in
     (omega (arith, start .pre .0 .page, start .pre .0 .small, whole, guard-next, emit-saves .ensures .next), search needs)
 
@@ -37,7 +37,7 @@ emit-operated-requires c κs =
     let at-emit-guard = c .before .before .before .before .before .before .before .before .before .before .before .before .before .before .before .before .before .before .before in
     let start = at-emit-guard .before .before .before .before .before .before .before .before .before .before .before in
     let a = start .args in
-    let whole = sizes (a .op) (a .slot .number) (a .width) (a .src) (a .dst) in
+    let whole = sizes (a .mode) (a .op) (a .slot .number) (a .width) (a .src) (a .dst) in
     let guard-next = at-emit-guard .emit-guard .ensures .wrote .next in
     (omega (arith, start .pre .0 .page, start .pre .0 .small, whole, guard-next, emit-saves .ensures .next, emit-alu .ensures .next), start .pre .1 .1 .0)
 
@@ -63,7 +63,7 @@ returns c =
     let at-emit-guard = at-emit-saves .before .before .before .before .before .before .before .before .before .before .before .before in
     let start = at-emit-guard .before .before .before .before .before .before .before .before .before .before .before in
     let a = start .args in
-    pieces (a .op) (a .slot .number) (a .width) (a .src) (a .dst)
+    pieces (a .mode) (a .op) (a .slot .number) (a .width) (a .src) (a .dst)
     (at-emit-guard .emit-guard .ensures) (at-emit-saves .emit-saves .ensures) (emit-alu .ensures) (c .before .before .emit-operated .ensures)
 
 pub emit-muldivmod-reg-spec : {M : Type 1} → statement M

@@ -46,9 +46,9 @@ returns c =
     let map-register = c .before .before .before .before .before .before .before .map-register in
     let start = c .before .before .before .before .before .before .before .before .before .before .before .before .before in
     rw (told .given .1, ← map-register .ensures .0)
-    (onwards (mulDivModImm (start .args .op) (start .args .width) (map-register .result) (start .args .i .imm))
-    (empty (targetsOf (mulDivModImm (start .args .op) (start .args .width) (map-register .result) (start .args .i .imm)))
-    (imm-jumps (start .args .op) (start .args .width) (map-register .result) (start .args .i .imm)))
+    (onwards (mulDivModImm (start .args .mode) (start .args .op) (start .args .width) (map-register .result) (start .args .i .imm))
+    (empty (targetsOf (mulDivModImm (start .args .mode) (start .args .op) (start .args .width) (map-register .result) (start .args .i .imm)))
+    (imm-jumps (start .args .mode) (start .args .op) (start .args .width) (map-register .result) (start .args .i .imm)))
     (c .before .before .before .emit-muldivmod-imm .ensures) (c .onward .ensures))
 
 same-length-2 : tie.Need-same-length-2

@@ -13,12 +13,12 @@ add-result c = search needs
 returns : tie.Need-returns
 returns c =
     let args = c .before .before .before .args in (
-      λ slot. call-helper slot (args .i) (args .value) (c .before .if1 .taken) (c .load-imm-length .ensures .0 0),
+      λ slot. call-helper (args .mode) slot (args .i) (args .value) (c .before .if1 .taken) (c .load-imm-length .ensures .0),
       omega (arith, c .load-imm-length .ensures .1),
     )
 
 returns-2 : tie.Need-returns-2
-returns-2 c = (λ slot. call-local slot (c .before .before .args .i) (c .before .before .args .value) (c .if1 .left), omega arith)
+returns-2 c = let args = c .before .before .args in (λ slot. call-local (args .mode) slot (args .i) (args .value) (c .if1 .left), omega arith)
 
 pub call-length-spec : {M : Type 1} → statement M
 call-length-spec = tie.close (tie.spec load-imm-length-requires add-result returns returns-2)

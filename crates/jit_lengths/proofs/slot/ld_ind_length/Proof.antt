@@ -13,7 +13,7 @@ add-result c = search needs
 returns : tie.Need-returns
 returns c =
     let args = c .before .args in (
-      λ m slot value. ind-size m (args .size) slot (args .i) value (c .load-length .ensures .0),
+      λ m slot value below. ind-size m (args .size) slot (args .i) value (c .load-length .ensures .0),
       omega (arith, c .load-length .ensures .1),
     )
 

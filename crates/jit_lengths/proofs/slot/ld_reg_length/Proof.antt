@@ -17,7 +17,7 @@ returns c =
     let dst = c .before .before .map-register .ensures in
     let src = c .before .map-register2 .ensures in
     let load = rw (dst .0, src .0) at (c .load-length .ensures .0) in
-    (λ slot value. omega (arith, load), c .load-length .ensures .1)
+    (λ m slot value below. omega (arith, load), c .load-length .ensures .1)
 
 pub ld-reg-length-spec : {M : Type 1} → statement M
 ld-reg-length-spec =

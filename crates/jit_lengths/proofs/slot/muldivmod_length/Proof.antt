@@ -18,7 +18,7 @@ returns c =
     let args = c .before .before .args in
     let cleared = c .before .cleared-length .ensures in
     let operation = c .operation-length .ensures in (
-      λ slot value. ahead-size (args .mode) (args .op) (args .width) (args .source) slot (args .i) value (cleared .0) (operation .0 slot),
+      λ slot value below. ahead-size (args .mode) (args .op) (args .width) (args .source) slot (args .i) value (cleared .0) (operation .0 slot below),
       omega (arith, cleared .1, operation .1),
     )
 

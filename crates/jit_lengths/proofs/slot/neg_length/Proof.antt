@@ -12,7 +12,7 @@ rexed-length-requires c κs = search needs
 returns : tie.Need-returns
 returns c =
     let args = c .before .before .args in (
-      λ m slot value. neg-size m (args .width) slot (args .i) value (rw (c .before .map-register .ensures .0) at (c .rexed-length .ensures .0)),
+      λ m slot value below. neg-size m (args .width) slot (args .i) value (rw (c .before .map-register .ensures .0) at (c .rexed-length .ensures .0)),
       c .rexed-length .ensures .1,
     )
 

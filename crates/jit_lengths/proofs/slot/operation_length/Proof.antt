@@ -18,13 +18,16 @@ returns c =
     let args = c .before .before .before .before .before .before .args in
     let map-register = c .before .before .before .before .before .map-register .ensures in
     rw (c .before .before .before .enum-told .given .1) (
-      λ slot. imm-zero (args .op) (args .width) slot (args .i) (c .before .if1 .taken)
+      λ slot below. imm-zero (args .mode) (args .op) (args .width) slot (args .i) (c .before .if1 .taken)
           (rw (map-register .0) at (c .by-zero-length .ensures .0)),
       omega (arith, c .by-zero-length .ensures .1),
     )
 
 computed-length-requires : tie.Need-computed-length-requires
 computed-length-requires c κs = search needs
+
+load-signed-length-requires : tie.Need-load-signed-length-requires
+load-signed-length-requires c κs = search needs
 
 add-result : tie.Need-add-result
 add-result c = search needs
@@ -49,13 +52,14 @@ add-result-3 c = search needs
 
 returns-2 : tie.Need-returns-2
 returns-2 c =
-    let args = c .before .before .before .before .before .before .args in
-    let computed-length = c .computed-length in
-    let map-register = c .before .before .before .before .before .map-register .ensures in
-    rw (c .before .before .before .enum-told .given .1) (
-      λ slot. imm-some (args .op) (args .width) slot (args .i) (computed-length .result) (c .before .if1 .left)
-          (rw (map-register .0) at (computed-length .ensures .0)),
-      omega (arith, computed-length .ensures .1),
+    let args = c .before .before .before .before .before .before .before .args in
+    let computed = c .before .computed-length in
+    let constant = c .load-signed-length in
+    let map-register = c .before .before .before .before .before .before .map-register .ensures in
+    rw (c .before .before .before .before .enum-told .given .1) (
+      λ slot below. imm-some (args .mode) (args .op) (args .width) slot (args .i) (computed .result) (constant .result) (c .before .before .if1 .left)
+          (rw (map-register .0) at (computed .ensures .0)) (constant .ensures .0),
+      omega (arith, computed .ensures .1, constant .ensures .1),
     )
 
 returns-3 : tie.Need-returns-3
@@ -65,8 +69,8 @@ returns-3 c =
     let computed-length = c .computed-length2 in
     let map-register = c .before .before .before .before .before .map-register .ensures in
     rw (c .before .before .before .enum-told2 .given .1) (
-      λ slot. reg-size (args .op) (args .width) slot (args .i) (guard-length .result) (computed-length .result)
-          (rw (map-register .0, c .before .before .map-register2 .ensures .0) at (guard-length .ensures .0 slot))
+      λ slot below. reg-size (args .mode) (args .op) (args .width) slot (args .i) (guard-length .result) (computed-length .result)
+          (rw (map-register .0, c .before .before .map-register2 .ensures .0) at (guard-length .ensures .0 slot below))
           (rw (map-register .0) at (computed-length .ensures .0)),
       omega (arith, guard-length .ensures .1, computed-length .ensures .1),
     )
@@ -80,6 +84,7 @@ operation-length-spec =
     by-zero-length-requires
     returns
     computed-length-requires
+    load-signed-length-requires
     add-result
     enum-told-2
     map-register-requires-2

@@ -176,7 +176,7 @@ returns-7 c =
     let width = c .before .before .before .width-of2 in
     let source = c .before .before .source-of2 in
     rw (kind, ← width .ensures, ← source .ensures, ← c .before .insn-at7 .ensures) (
-      λ slot value. c .operands-length .ensures .0 (aluOf op) ∙ alu-size op (width .result) (source .result) (c .before .insn-at7 .result),
+      λ slot value below. c .operands-length .ensures .0 (aluOf op) ∙ alu-size op (width .result) (source .result) (c .before .insn-at7 .result),
       omega (arith, c .operands-length .ensures .1),
     )
 
@@ -185,7 +185,7 @@ returns-8 c =
     let pre = c .before .before .before .before .before .before .pre in
     let kind = kind-read (pre .0) (c .before .before .before .before .match .keys8) in
     rw (kind, ← c .before .before .before .width-of3 .ensures, ← c .before .before .source-of3 .ensures, ← c .before .insn-at8 .ensures)
-    (λ slot value. c .shift-length .ensures .0 _, omega (arith, c .shift-length .ensures .1))
+    (λ slot value below. c .shift-length .ensures .0 _, omega (arith, c .shift-length .ensures .1))
 
 returns-9 : tie.Need-returns-9
 returns-9 c =
@@ -199,12 +199,12 @@ returns-10 c =
     let pre = c .before .before .before .before .before .before .pre in
     let kind = kind-read (pre .0) (c .before .before .before .before .match .keys10) in
     rw (kind, ← c .before .before .before .width-of5 .ensures, ← c .before .before .source-of4 .ensures, ← c .before .insn-at10 .ensures)
-    (λ slot value. c .mov-length .ensures .0, omega (arith, c .mov-length .ensures .1))
+    (λ slot value below. c .mov-length .ensures .0, omega (arith, c .mov-length .ensures .1))
 
 returns-11 : tie.Need-returns-11
 returns-11 c =
     let pre = c .before .before .pre in
-    rw (kind-read (pre .0) (c .match .keys11)) (λ slot value. refl, omega arith)
+    rw (kind-read (pre .0) (c .match .keys11)) (λ slot value below. refl, omega arith)
 
 returns-12 : tie.Need-returns-12
 returns-12 c = let pre = c .before .before .pre in (no-length (c .before .before .args .mode) (pre .0) (pre .1) (c .match .rest), omega arith)

@@ -15,7 +15,7 @@ returns : tie.Need-returns
 returns c =
     let args = c .before .before .args in
     let store = rw (c .before .map-register .ensures .0) at (c .store-imm-length .ensures .0 (args .i .imm % 2 ^ immBits (args .size))) in
-    (λ slot value. omega (arith, store), c .store-imm-length .ensures .1)
+    (λ m slot value below. omega (arith, store), c .store-imm-length .ensures .1)
 
 pub st-imm-length-spec : {M : Type 1} → statement M
 st-imm-length-spec = tie.close (tie.spec map-register-requires store-imm-length-requires returns)

@@ -17,7 +17,7 @@ returns c =
     let dst = c .before .before .map-register .ensures in
     let src = c .before .map-register2 .ensures in
     let store = rw (dst .0, src .0) at (c .store-length .ensures .0) in
-    (λ slot value. omega (arith, store), c .store-length .ensures .1)
+    (λ m slot value below. omega (arith, store), c .store-length .ensures .1)
 
 pub st-reg-length-spec : {M : Type 1} → statement M
 st-reg-length-spec =

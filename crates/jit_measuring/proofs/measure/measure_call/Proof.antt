@@ -33,10 +33,10 @@ returns c =
     let value = found .value .given in
     let length = c .before .before .before .call-length .ensures in
     let slot = args .slot .number in
-    let lists = helper-lists slot (args .i) (value .0 .0) (c .before .if1 .taken) in
-    λ m. rw (← found .before .before .call-operand .ensures, value .1, c .plain .ensures) (
-      finds-none m Call (args .n) slot (args .i) (value .0 .0) (length .0 slot) refl
-          (none-good (args .n) slot (slotCode m Call slot (args .i) (value .0 .0)) lists),
+    let lists = helper-lists (args .mode) slot (args .i) (value .0 .0) (c .before .if1 .taken) in
+    rw (← found .before .before .call-operand .ensures, value .1, c .plain .ensures) (
+      finds-none (args .mode) Call (args .n) slot (args .i) (value .0 .0) (length .0 slot) refl
+          (none-good (args .n) slot (slotCode (args .mode) Call slot (args .i) (value .0 .0)) lists),
       omega (arith, length .1),
     )
 
@@ -49,7 +49,7 @@ jumps-requires c κs = search needs
 returns-2 : tie.Need-returns-2
 returns-2 c =
     let operand = c .before .before .before .before .call-operand .ensures in
-    λ m. rw (← operand, c .before .before .refusal .given .1, c .stops .ensures) (refl, omega arith)
+    rw (← operand, c .before .before .refusal .given .1, c .stops .ensures) (refl, omega arith)
 
 returns-3 : tie.Need-returns-3
 returns-3 c =
@@ -58,9 +58,9 @@ returns-3 c =
     let value = found .value .given in
     let length = c .before .before .before .before .call-length .ensures in
     let slot = args .slot .number in
-    let lists = local-lists slot (args .i) (value .0 .0) (c .before .before .if1 .left) in
-    λ m. rw (← found .before .before .call-operand .ensures, value .1, c .jumps .ensures, c .before .target-of .ensures) (
-      finds-jump m Call (args .n) slot (args .i) (value .0 .0) (targetOf slot (args .i .imm)) (length .0 slot) refl lists,
+    let lists = local-lists (args .mode) slot (args .i) (value .0 .0) (c .before .before .if1 .left) in
+    rw (← found .before .before .call-operand .ensures, value .1, c .jumps .ensures, c .before .target-of .ensures) (
+      finds-jump (args .mode) Call (args .n) slot (args .i) (value .0 .0) (targetOf slot (args .i .imm)) (length .0 slot) refl lists,
       omega (arith, length .1),
     )
 

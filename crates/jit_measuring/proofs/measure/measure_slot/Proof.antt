@@ -58,7 +58,11 @@ insn-at-requires : tie.Need-insn-at-requires
 insn-at-requires c κs = search needs
 
 measure-wide-requires : tie.Need-measure-wide-requires
-measure-wide-requires c κs = search needs
+unfolding insnAt
+measure-wide-requires c κs =
+    let tested = c .before .before .before .before in
+    let pre = tested .before .before .before .before .before .before .before .pre in
+    rw (c .insn-at .ensures) (omega (arith, tested .before .if1 .left), omega (arith, pre))
 
 insn-at-requires-2 : tie.Need-insn-at-requires-2
 insn-at-requires-2 c κs = search needs
@@ -155,7 +159,7 @@ returns-5 c =
     let begun = tested .before .before .before .before .before .before .before in
     let s = seen (begun .args .prog .now) (begun .pre .1) (tested .before .if1 .left) (tested .if2 .left) in
     let entry = sym (known .match .keys3) ∙ known .before .number-in .ensures in
-    let found = rw (c .before .insn-at .ensures) at (c .measure-wide .ensures (begun .args .n) (begun .args .mode)) in
+    let found = rw (c .before .insn-at .ensures) at (c .measure-wide .ensures (begun .args .n)) in
     (finds-of _ s LdDwImm _ (kind-some _ LD-DW-IMM (λ z. omega (arith, z)) entry) (found .0), found .1)
 
 returns-6 : tie.Need-returns-6
@@ -204,7 +208,7 @@ returns-9 c =
     let begun = tested .before .before .before .before .before .before .before in
     let s = seen (begun .args .prog .now) (begun .pre .1) (tested .before .if1 .left) (tested .if2 .left) in
     let entry = sym (known .match .keys7) ∙ known .before .number-in .ensures in
-    let found = rw (c .before .insn-at4 .ensures) at (c .measure-call .ensures (begun .args .mode)) in
+    let found = rw (c .before .insn-at4 .ensures) at (c .measure-call .ensures) in
     (finds-of _ s Call _ (kind-some _ CALL (λ z. omega (arith, z)) entry) (found .0), found .1)
 
 returns-10 : tie.Need-returns-10

@@ -1,4 +1,3 @@
-use Rattle.jit.specs.Slots.{regOf}
 use native.Mathlib.Omega.{arith}
 use mathlib.Core.Path.{refl}
 use borrow.Author.Needs.{needs}
@@ -17,21 +16,23 @@ stops-requires c κs = search needs
 enum-known-value : tie.Need-enum-known-value
 enum-known-value c = search needs
 
+map-register-requires : tie.Need-map-register-requires
+map-register-requires c κs = search needs
+
 load-imm-length-requires : tie.Need-load-imm-length-requires
 load-imm-length-requires c κs = search needs
 
 returns : tie.Need-returns
 returns c =
     let operand = c .before .before .before .before .wide-operand .ensures in
-    λ n m. rw (← operand, c .before .before .refusal .given .1, c .stops .ensures) (refl, omega arith)
+    λ n. rw (← operand, c .before .before .refusal .given .1, c .stops .ensures) (refl, omega arith)
 
 returns-2 : tie.Need-returns-2
 returns-2 c =
-    let args = c .before .before .before .before .before .before .args in
-    let operand = c .before .before .before .before .wide-operand .ensures in
+    let operand = c .before .before .before .before .before .wide-operand .ensures in
     let length = c .load-imm-length .ensures in
-    λ n m. rw (← operand, c .before .before .value .given .1)
-    ((refl, (omega (arith, length .0 (regOf (args .i .dst))), (refl, refl))), omega (arith, length .1))
+    λ n. rw (← operand, c .before .before .before .value .given .1, ← c .before .map-register .ensures .0)
+    ((refl, (omega (arith, length .0), (refl, refl))), omega (arith, length .1))
 
 pub measure-wide-spec : {M : Type 1} → statement M
 measure-wide-spec =
@@ -41,6 +42,7 @@ measure-wide-spec =
     enum-known-refusal
     stops-requires
     enum-known-value
+    map-register-requires
     load-imm-length-requires
     returns
     returns-2)

@@ -16,7 +16,7 @@ returns : tie.Need-returns
 returns c =
     let if1 = c .before .before .before .before .if1 in
     let start = c .before .before .before .before .before .before .before .before .before .before .before in
-    rw (eq-eqb _ _ (if1 .taken)) (plainly (helperCall (start .args .value)) refl (c .before .before .emit-helper-call .ensures))
+    rw (eq-eqb _ _ (if1 .taken)) (plainly (helperCall (start .args .mode) (start .args .value)) refl (c .before .before .emit-helper-call .ensures))
 
 target-of-requires : tie.Need-target-of-requires
 target-of-requires c κs = search needs

@@ -1,3 +1,8 @@
+use mathlib.Core.Path.{_∙_, ap}
+use Rattle.ebpf.specs.Insn.{insnAt}
+use Rattle.ebpf.specs.Kinds.{widthOf}
+use Rattle.ebpf.specs.Opcode.{kindOf, sourceOf}
+use Rattle.jit_slots.proofs.SlotCodes.{other-mov}
 use Rattle.jit_walk.proofs.NumberedLaws.{no-code}
 use Rattle.jit_walk.proofs.SlotReads.{kind-at, fields}
 use Rattle.x86_emit.proofs.WroteLaws.{nothing, last}
@@ -94,36 +99,11 @@ insn-at-requires-8 c κs = search needs
 emit-neg-requires : tie.Need-emit-neg-requires
 emit-neg-requires c κs = let read = fields (c .before .before .before .before .before .before .pre .0 .0) (c .insn-at8 .ensures) in search needs
 
-width-of-requires-4 : tie.Need-width-of-requires-4
-width-of-requires-4 c κs = search needs
-
-source-of-requires-3 : tie.Need-source-of-requires-3
-source-of-requires-3 c κs = search needs
-
 insn-at-requires-9 : tie.Need-insn-at-requires-9
 insn-at-requires-9 c κs = search needs
 
-emit-mov-requires : tie.Need-emit-mov-requires
-emit-mov-requires c κs = let read = fields (c .before .before .before .before .before .before .before .pre .0 .0) (c .insn-at9 .ensures) in search needs
-
-insn-at-requires-10 : tie.Need-insn-at-requires-10
-insn-at-requires-10 c κs = search needs
-
-emit-be-requires : tie.Need-emit-be-requires
-emit-be-requires c κs =
-    let matched = c .before .before in
-    let pre = matched .before .before .before .pre in
-    let insn-at = c .insn-at10 .ensures in
-    (rw (kind-at (pre .0 .0) (matched .match .keys10), ← insn-at) at (pre .1), fields (pre .0 .0) insn-at .dst)
-
-insn-at-requires-11 : tie.Need-insn-at-requires-11
-insn-at-requires-11 c κs = search needs
-
-emit-le-requires : tie.Need-emit-le-requires
-emit-le-requires c κs = let read = fields (c .before .before .before .before .before .pre .0 .0) (c .insn-at11 .ensures) in search needs
-
-emit-ret-requires : tie.Need-emit-ret-requires
-emit-ret-requires c κs = search needs
+emit-mov64-imm-requires : tie.Need-emit-mov64-imm-requires
+emit-mov64-imm-requires c κs = let read = fields (c .before .before .before .before .before .before .pre .0 .0) (c .insn-at9 .ensures) in search needs
 
 same-length : tie.Need-same-length
 same-length c = search needs
@@ -133,7 +113,38 @@ returns c =
     let read = c .before .before .before in
     let matched = read .before .before .before in
     let slot = matched .before .before .before .pre .0 .0 in
-    rw (kind-at slot (matched .match .keys1), ← read .before .size-of .ensures, ← read .insn-at .ensures) (c .before .before .emit-ld-abs .ensures)
+    rw (kind-at slot (matched .match .keys9), read .before .before .if1 .taken, ← read .insn-at9 .ensures) (c .before .before .emit-mov64-imm .ensures)
+
+width-of-requires-4 : tie.Need-width-of-requires-4
+width-of-requires-4 c κs = search needs
+
+source-of-requires-3 : tie.Need-source-of-requires-3
+source-of-requires-3 c κs = search needs
+
+insn-at-requires-10 : tie.Need-insn-at-requires-10
+insn-at-requires-10 c κs = search needs
+
+emit-mov-requires : tie.Need-emit-mov-requires
+emit-mov-requires c κs = let read = fields (c .before .before .before .before .before .before .before .before .pre .0 .0) (c .insn-at10 .ensures) in search needs
+
+insn-at-requires-11 : tie.Need-insn-at-requires-11
+insn-at-requires-11 c κs = search needs
+
+emit-be-requires : tie.Need-emit-be-requires
+emit-be-requires c κs =
+    let matched = c .before .before in
+    let pre = matched .before .before .before .pre in
+    let insn-at = c .insn-at11 .ensures in
+    (rw (kind-at (pre .0 .0) (matched .match .keys10), ← insn-at) at (pre .1), fields (pre .0 .0) insn-at .dst)
+
+insn-at-requires-12 : tie.Need-insn-at-requires-12
+insn-at-requires-12 c κs = search needs
+
+emit-le-requires : tie.Need-emit-le-requires
+emit-le-requires c κs = let read = fields (c .before .before .before .before .before .pre .0 .0) (c .insn-at12 .ensures) in search needs
+
+emit-ret-requires : tie.Need-emit-ret-requires
+emit-ret-requires c κs = search needs
 
 same-length-2 : tie.Need-same-length-2
 same-length-2 c = search needs
@@ -143,7 +154,7 @@ returns-2 c =
     let read = c .before .before .before in
     let matched = read .before .before .before in
     let slot = matched .before .before .before .pre .0 .0 in
-    rw (kind-at slot (matched .match .keys2), ← read .before .size-of2 .ensures, ← read .insn-at2 .ensures) (c .before .before .emit-ld-ind .ensures)
+    rw (kind-at slot (matched .match .keys1), ← read .before .size-of .ensures, ← read .insn-at .ensures) (c .before .before .emit-ld-abs .ensures)
 
 same-length-3 : tie.Need-same-length-3
 same-length-3 c = search needs
@@ -153,7 +164,7 @@ returns-3 c =
     let read = c .before .before .before in
     let matched = read .before .before .before in
     let slot = matched .before .before .before .pre .0 .0 in
-    rw (kind-at slot (matched .match .keys3), ← read .before .size-of3 .ensures, ← read .insn-at3 .ensures) (c .before .before .emit-ld-reg .ensures)
+    rw (kind-at slot (matched .match .keys2), ← read .before .size-of2 .ensures, ← read .insn-at2 .ensures) (c .before .before .emit-ld-ind .ensures)
 
 same-length-4 : tie.Need-same-length-4
 same-length-4 c = search needs
@@ -163,7 +174,7 @@ returns-4 c =
     let read = c .before .before .before in
     let matched = read .before .before .before in
     let slot = matched .before .before .before .pre .0 .0 in
-    rw (kind-at slot (matched .match .keys4), ← read .before .size-of4 .ensures, ← read .insn-at4 .ensures) (c .before .before .emit-st-imm .ensures)
+    rw (kind-at slot (matched .match .keys3), ← read .before .size-of3 .ensures, ← read .insn-at3 .ensures) (c .before .before .emit-ld-reg .ensures)
 
 same-length-5 : tie.Need-same-length-5
 same-length-5 c = search needs
@@ -173,7 +184,7 @@ returns-5 c =
     let read = c .before .before .before in
     let matched = read .before .before .before in
     let slot = matched .before .before .before .pre .0 .0 in
-    rw (kind-at slot (matched .match .keys5), ← read .before .size-of5 .ensures, ← read .insn-at5 .ensures) (c .before .before .emit-st-reg .ensures)
+    rw (kind-at slot (matched .match .keys4), ← read .before .size-of4 .ensures, ← read .insn-at4 .ensures) (c .before .before .emit-st-imm .ensures)
 
 same-length-6 : tie.Need-same-length-6
 same-length-6 c = search needs
@@ -181,11 +192,9 @@ same-length-6 c = search needs
 returns-6 : tie.Need-returns-6
 returns-6 c =
     let read = c .before .before .before in
-    let matched = read .before .before .before .before in
+    let matched = read .before .before .before in
     let slot = matched .before .before .before .pre .0 .0 in
-    let opc-is = fields slot (read .insn-at6 .ensures) .opc-is in
-    rw (kind-at slot (matched .match .keys6), ← read .before .before .width-of .ensures, ← read .before .source-of .ensures, ← read .insn-at6 .ensures, ← opc-is)
-    (c .before .before .emit-arithmetic .ensures)
+    rw (kind-at slot (matched .match .keys5), ← read .before .size-of5 .ensures, ← read .insn-at5 .ensures) (c .before .before .emit-st-reg .ensures)
 
 same-length-7 : tie.Need-same-length-7
 same-length-7 c = search needs
@@ -195,9 +204,9 @@ returns-7 c =
     let read = c .before .before .before in
     let matched = read .before .before .before .before in
     let slot = matched .before .before .before .pre .0 .0 in
-    let opc-is = fields slot (read .insn-at7 .ensures) .opc-is in
-    rw (kind-at slot (matched .match .keys7), ← read .before .before .width-of2 .ensures, ← read .before .source-of2 .ensures, ← read .insn-at7 .ensures, ← opc-is)
-    (c .before .before .emit-shift .ensures)
+    let opc-is = fields slot (read .insn-at6 .ensures) .opc-is in
+    rw (kind-at slot (matched .match .keys6), ← read .before .before .width-of .ensures, ← read .before .source-of .ensures, ← read .insn-at6 .ensures, ← opc-is)
+    (c .before .before .emit-arithmetic .ensures)
 
 same-length-8 : tie.Need-same-length-8
 same-length-8 c = search needs
@@ -205,9 +214,11 @@ same-length-8 c = search needs
 returns-8 : tie.Need-returns-8
 returns-8 c =
     let read = c .before .before .before in
-    let matched = read .before .before .before in
+    let matched = read .before .before .before .before in
     let slot = matched .before .before .before .pre .0 .0 in
-    rw (kind-at slot (matched .match .keys8), ← read .before .width-of3 .ensures, ← read .insn-at8 .ensures) (c .before .before .emit-neg .ensures)
+    let opc-is = fields slot (read .insn-at7 .ensures) .opc-is in
+    rw (kind-at slot (matched .match .keys7), ← read .before .before .width-of2 .ensures, ← read .before .source-of2 .ensures, ← read .insn-at7 .ensures, ← opc-is)
+    (c .before .before .emit-shift .ensures)
 
 same-length-9 : tie.Need-same-length-9
 same-length-9 c = search needs
@@ -215,10 +226,9 @@ same-length-9 c = search needs
 returns-9 : tie.Need-returns-9
 returns-9 c =
     let read = c .before .before .before in
-    let matched = read .before .before .before .before in
+    let matched = read .before .before .before in
     let slot = matched .before .before .before .pre .0 .0 in
-    rw (kind-at slot (matched .match .keys9), ← read .before .before .width-of4 .ensures, ← read .before .source-of3 .ensures, ← read .insn-at9 .ensures)
-    (c .before .before .emit-mov .ensures)
+    rw (kind-at slot (matched .match .keys8), ← read .before .width-of3 .ensures, ← read .insn-at8 .ensures) (c .before .before .emit-neg .ensures)
 
 same-length-10 : tie.Need-same-length-10
 same-length-10 c = search needs
@@ -226,9 +236,15 @@ same-length-10 c = search needs
 returns-10 : tie.Need-returns-10
 returns-10 c =
     let read = c .before .before .before in
-    let matched = read .before .before in
-    let slot = matched .before .before .before .pre .0 .0 in
-    rw (kind-at slot (matched .match .keys10), ← read .insn-at10 .ensures) (c .before .before .emit-be .ensures)
+    let matched = read .before .before .before .before .before in
+    let start = matched .before .before .before in
+    let args = start .args in
+    let slot = start .pre .0 .0 in
+    let kind = ap kindOf (slot .opc-is) ∙ kind-at slot (matched .match .keys9) in
+    let i = insnAt (args .prog .now) (args .slot .number) in
+    let other = other-mov (args .mode) (args .opc) (widthOf (args .opc)) (sourceOf (args .opc)) i (search needs) (read .before .before .before .before .if1 .left) kind in
+    rw (kind-at slot (matched .match .keys9), ← other, ← read .before .before .width-of4 .ensures, ← read .before .source-of3 .ensures, ← read .insn-at10 .ensures)
+    (c .before .before .emit-mov .ensures)
 
 same-length-11 : tie.Need-same-length-11
 same-length-11 c = search needs
@@ -238,18 +254,28 @@ returns-11 c =
     let read = c .before .before .before in
     let matched = read .before .before in
     let slot = matched .before .before .before .pre .0 .0 in
-    rw (kind-at slot (matched .match .keys11), ← read .insn-at11 .ensures) (c .before .before .emit-le .ensures)
+    rw (kind-at slot (matched .match .keys10), ← read .insn-at11 .ensures) (c .before .before .emit-be .ensures)
 
 same-length-12 : tie.Need-same-length-12
 same-length-12 c = search needs
 
 returns-12 : tie.Need-returns-12
 returns-12 c =
-    let matched = c .before .before .before .before in
-    rw (kind-at (matched .before .before .before .pre .0 .0) (matched .match .keys12)) (last (c .before .before .emit-ret .ensures))
+    let read = c .before .before .before in
+    let matched = read .before .before in
+    let slot = matched .before .before .before .pre .0 .0 in
+    rw (kind-at slot (matched .match .keys11), ← read .insn-at12 .ensures) (c .before .before .emit-le .ensures)
+
+same-length-13 : tie.Need-same-length-13
+same-length-13 c = search needs
 
 returns-13 : tie.Need-returns-13
 returns-13 c =
+    let matched = c .before .before .before .before in
+    rw (kind-at (matched .before .before .before .pre .0 .0) (matched .match .keys12)) (last (c .before .before .emit-ret .ensures))
+
+returns-14 : tie.Need-returns-14
+returns-14 c =
     let start = c .before .before .before in
     rw (no-code (start .args .mode) (start .pre .0 .0 .numbered) (start .pre .0 .1) (c .match .rest)) nothing
 
@@ -283,17 +309,19 @@ emit-plain-spec =
     width-of-requires-3
     insn-at-requires-8
     emit-neg-requires
-    width-of-requires-4
-    source-of-requires-3
     insn-at-requires-9
-    emit-mov-requires
-    insn-at-requires-10
-    emit-be-requires
-    insn-at-requires-11
-    emit-le-requires
-    emit-ret-requires
+    emit-mov64-imm-requires
     same-length
     returns
+    width-of-requires-4
+    source-of-requires-3
+    insn-at-requires-10
+    emit-mov-requires
+    insn-at-requires-11
+    emit-be-requires
+    insn-at-requires-12
+    emit-le-requires
+    emit-ret-requires
     same-length-2
     returns-2
     same-length-3
@@ -316,4 +344,6 @@ emit-plain-spec =
     returns-11
     same-length-12
     returns-12
-    returns-13)
+    same-length-13
+    returns-13
+    returns-14)

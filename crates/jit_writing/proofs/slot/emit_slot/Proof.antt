@@ -2,7 +2,6 @@ use mathlib.Core.Path.{refl}
 use Prim.Native.Nat.{_+_}
 use Rattle.ebpf.specs.Insn.{readAt}
 use Rattle.ebpf.specs.declared.kind.Kind.the-variants.{LdDwImm}
-use Rattle.jit.specs.Modes.{rust}
 use Rattle.jit.specs.Translation.{Filter}
 use Rattle.jit.specs.Slots.{slotCode}
 use Rattle.jit_recording.proofs.EmitsLaws.{onwards}
@@ -122,7 +121,7 @@ returns c =
     let value-in = c .before .before .before .before .before .value-in in
     let insn-at = c .before .before .before .before .before .before .before .insn-at in
     rw (kind, ← insn-at .ensures, ← c .before .before .before .before .before .before .wide-operand .ensures, ← value-in .ensures)
-    (onwards (slotCode rust LdDwImm 0 (insn-at .result) (value-in .result)) refl (c .before .before .before .emit-ld-dw-imm .ensures) (c .onward .ensures))
+    (onwards (slotCode (earlier .args .mode) LdDwImm 0 (insn-at .result) (value-in .result)) refl (c .before .before .before .emit-ld-dw-imm .ensures) (c .onward .ensures))
 
 same-length-2 : tie.Need-same-length-2
 same-length-2 c = search needs

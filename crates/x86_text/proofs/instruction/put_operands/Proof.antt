@@ -63,6 +63,9 @@ put-register-requires-3 c κs = search needs
 enum-known-i-8 : tie.Need-enum-known-i-8
 enum-known-i-8 c = search needs
 
+size-of-requires-5 : tie.Need-size-of-requires-5
+size-of-requires-5 c κs = search needs
+
 put-with-constant-requires-2 : tie.Need-put-with-constant-requires-2
 put-with-constant-requires-2 c κs = search needs
 
@@ -78,8 +81,8 @@ put-with-constant-requires-3 c κs = search needs
 enum-known-i-10 : tie.Need-enum-known-i-10
 enum-known-i-10 c = search needs
 
-size-of-requires-5 : tie.Need-size-of-requires-5
-size-of-requires-5 c κs = search needs
+size-of-requires-6 : tie.Need-size-of-requires-6
+size-of-requires-6 c κs = search needs
 
 put-register-requires-4 : tie.Need-put-register-requires-4
 put-register-requires-4 c κs = search needs
@@ -180,7 +183,9 @@ same-length-8 : tie.Need-same-length-8
 same-length-8 c = search needs
 
 returns-8 : tie.Need-returns-8
-returns-8 c = same (c .before .before .put-with-constant2 .ensures) (rw (c .before .before .before .before .before .i8 .given .1))
+returns-8 c =
+    let said = c .before .before in
+    same (said .put-with-constant2 .ensures) (rw (said .before .size-of5 .ensures, said .before .before .before .before .i8 .given .1))
 
 same-length-9 : tie.Need-same-length-9
 same-length-9 c = search needs
@@ -194,7 +199,7 @@ same-length-10 c = search needs
 returns-10 : tie.Need-returns-10
 returns-10 c =
     let said = c .before .before in
-    same (said .put-register4 .ensures) (rw (said .before .size-of5 .ensures, said .before .before .before .before .i10 .given .1))
+    same (said .put-register4 .ensures) (rw (said .before .size-of6 .ensures, said .before .before .before .before .i10 .given .1))
 
 same-length-11 : tie.Need-same-length-11
 same-length-11 c = search needs
@@ -237,8 +242,8 @@ put-operands-spec =
     (tie.spec
     enum-known-i put-register-requires enum-known-i-2 put-register-requires-2 enum-known-i-3 size-of-requires put-pair-requires enum-known-i-4
     put-arithmetic-requires enum-known-i-5 size-of-requires-2 cast-put-with-constant put-with-constant-requires enum-known-i-6 size-of-requires-3
-    put-by-count-requires enum-known-i-7 size-of-requires-4 put-register-requires-3 enum-known-i-8 put-with-constant-requires-2 enum-known-i-9
-    cast-put-with-constant-2 put-with-constant-requires-3 enum-known-i-10 size-of-requires-5 put-register-requires-4 enum-known-i-11
+    put-by-count-requires enum-known-i-7 size-of-requires-4 put-register-requires-3 enum-known-i-8 size-of-requires-5 put-with-constant-requires-2 enum-known-i-9
+    cast-put-with-constant-2 put-with-constant-requires-3 enum-known-i-10 size-of-requires-6 put-register-requires-4 enum-known-i-11
     put-load-requires enum-known-i-12 put-store-requires enum-known-i-13 put-store-constant-requires enum-known-i-14 slice-aggregate-put-form
     destination-of-requires slice-aggregate-put-form-2 put-form-requires enum-known-i-15 put-register-requires-5 enum-told same-length returns
     same-length-2 returns-2 same-length-3 returns-3 same-length-4 returns-4 same-length-5 returns-5 same-length-6 returns-6 same-length-7 returns-7

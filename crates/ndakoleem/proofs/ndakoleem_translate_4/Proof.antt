@@ -1,11 +1,11 @@
--- `ndakoleem_translate_3` meets its contract: of either case of the answer the struct holds its four numbers,
+-- `ndakoleem_translate_4` meets its contract: of either case of the answer the struct holds its four numbers,
 -- and what Rattle knows of every slice is all that demand 3 is given.
 use mathlib.Core.Path.{refl}
 use native.Mathlib.Omega.{arith}
 use borrow.Author.Needs.{needs}
 use Rattle.ndakoleem.proofs.ExportedLaws.{exported}
-use Rattle.ndakoleem.proofs.ndakoleem_translate_3.Statement.{statement}
-use Rattle.ndakoleem.proofs.ndakoleem_translate_3.Tie as tie
+use Rattle.ndakoleem.proofs.ndakoleem_translate_4.Statement.{statement}
+use Rattle.ndakoleem.proofs.ndakoleem_translate_4.Tie as tie
 
 translate-requires : tie.Need-translate-requires
 translate-requires c κs = search needs
@@ -81,8 +81,8 @@ returns-2 c =
     exported _ (record { bytes = λ k. omega (arith, bytes k); addresses = λ k. omega (arith, addresses k) })
     (done .translate .ensures .0) (done .translate .ensures .1) (rw told refl) (rw told refl) (rw told refl) (rw told refl)
 
-pub ndakoleem-translate-3-spec : {M : Type 1} → statement M
-ndakoleem-translate-3-spec =
+pub ndakoleem-translate-4-spec : {M : Type 1} → statement M
+ndakoleem-translate-4-spec =
     tie.close
     (tie.spec
     translate-requires

@@ -1,0 +1,2 @@
+pub mod SavingLaws
+pub mod Useless
