@@ -20,7 +20,8 @@ same-length c = search needs
 returns : tie.Need-returns
 returns c =
     let args = c .before .before .before .before .before .before .before .args in
-    let short = load-short (args .dst) (args .value) (rw (← c .before .before .before .before .before .wrapping-add-u64 .ensures) (c .before .before .before .before .if1 .taken)) in
+    let tested = c .before .before .before .before in
+    let short = load-short (args .dst) (args .value) (rw (← tested .before .wrapping-add-u64 .ensures) (tested .if1 .taken)) in
     rw (← short) (c .before .before .emit-load-signed .ensures)
 
 is-low-requires : tie.Need-is-low-requires
@@ -40,7 +41,8 @@ same-length-2 c = search needs
 returns-2 : tie.Need-returns-2
 returns-2 c =
     let args = c .before .before .before .before .before .before .before .before .before .args in
-    let long = load-long (args .dst) (args .value) (rw (← c .before .before .before .before .before .before .before .wrapping-add-u64 .ensures) (c .before .before .before .before .before .before .if1 .left)) in
+    let tested = c .before .before .before .before .before .before in
+    let long = load-long (args .dst) (args .value) (rw (← tested .before .wrapping-add-u64 .ensures) (tested .if1 .left)) in
     let test = sym (c .before .before .before .before .before .is-low .ensures) ∙ c .before .before .before .before .if2 .taken in
     rw (← long, ← loaded-low (args .mode) (args .dst) (args .value) test) (c .before .before .emit-mov-imm32 .ensures)
 
@@ -53,7 +55,8 @@ same-length-3 c = search needs
 returns-3 : tie.Need-returns-3
 returns-3 c =
     let args = c .before .before .before .before .before .before .before .before .before .args in
-    let long = load-long (args .dst) (args .value) (rw (← c .before .before .before .before .before .before .before .wrapping-add-u64 .ensures) (c .before .before .before .before .before .before .if1 .left)) in
+    let tested = c .before .before .before .before .before .before in
+    let long = load-long (args .dst) (args .value) (rw (← tested .before .wrapping-add-u64 .ensures) (tested .if1 .left)) in
     let test = sym (c .before .before .before .before .before .is-low .ensures) ∙ c .before .before .before .before .if2 .left in
     rw (← long, ← loaded-high (args .mode) (args .dst) (args .value) test) (c .before .before .emit-movabs .ensures)
 
