@@ -24,3 +24,4 @@ pub mod UselessJumps
 pub mod UselessRuns
 pub mod Rejected
 pub mod WorkedPage
+pub mod ShorterForms
