@@ -24,12 +24,11 @@ from helpers import AT_BORDERS, FUNCTIONS, MIX
 from interpreter import BadSwap, Fault, Memory, Run
 from loader import pages
 from modes import MODES
+from names import CONDITIONS, NAMES
 
 STACK_TOP = 0x70000000
 PACKET = bytes(64)
 MUL_64, ADD_64_X, MOV_64, EXIT, WIDE, JA, CALL = 0x27, 0x0F, 0xB7, 0x95, 0x18, 0x05, 0x85
-NAMES = ["ADD", "SUB", "MUL", "DIV", "OR", "AND", "LSH", "RSH", "NEG", "MOD", "XOR", "MOV", "ARSH"]
-CONDITIONS = {1: "JEQ", 2: "JGT", 3: "JGE", 4: "JSET", 5: "JNE", 6: "JSGT", 7: "JSGE", 10: "JLT", 11: "JLE", 12: "JSLT", 13: "JSLE"}
 NEG, MOV = 8, 11
 BAD_SWAP = 10  # the refusal
 EDGES = [0, 1, 0x80, 0xFFFF, 0x7FFFFFFF, 0x80000000, 0x100000000, 0x7FFFFFFFFFFFFFFF, 0x8000000000000001, 0xFFFFFFFFFFFFFFFF]

@@ -1,5 +1,5 @@
 /* Writes the tests of the kernel's lib/test_bpf.c to standard output. The table of them, and the functions that make the long ones, are
-   compiled as they stand there, over the words of test_bpf.h; test_bpf.py cuts them out.
+   compiled as they stand there, over the words of test_bpf.h; kernel_tests.py cuts them out.
 
    Of each test: the length of its name and the name; 0 for one of classic BPF, else 1; how many runs there are, and of each the bytes of
    memory that r1 points to and the low half of r0 at the end; the number of slots, and the slots. All numbers have 32 bits. */

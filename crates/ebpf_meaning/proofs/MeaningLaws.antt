@@ -65,11 +65,11 @@ module _ (i : Insn) (r : List ℕ) (x : ℕ) where
   jump-by-register c w = refl
 
 -- Operands are numbers of their width.
-cut-lt : (w : Width) (x : ℕ) → cut w x < 2 ^ bits w
+pub cut-lt : (w : Width) (x : ℕ) → cut w x < 2 ^ bits w
 cut-lt W32 x = omega arith
 cut-lt W64 x = omega arith
 
-immediate-lt : (w : Width) (x : ℕ) → x < 2 ^ 32 → immediate w x < 2 ^ bits w
+pub immediate-lt : (w : Width) (x : ℕ) → x < 2 ^ 32 → immediate w x < 2 ^ bits w
 immediate-lt w x h = by w (ltb x (2 ^ 31))
   where
     by : (w : Width) (b : Bool) → pick b x (x + (2 ^ bits w - 2 ^ 32)) < 2 ^ bits w
@@ -95,7 +95,7 @@ pick-lt : (t : Bool) {x y n : ℕ} → x < n → y < n → pick t x y < n
 pick-lt true h g = h
 pick-lt false h g = g
 
-mul-lt : (o : MulOp) (w : Width) (a b : ℕ) → a < 2 ^ bits w → mulValue o w a b < 2 ^ bits w
+pub mul-lt : (o : MulOp) (w : Width) (a b : ℕ) → a < 2 ^ bits w → mulValue o w a b < 2 ^ bits w
 unfolding mulValue
 mul-lt Mul w a b h = cut-lt w _
 mul-lt Div w a b h = pick-lt (eqb b 0) (omega arith) (omega (arith, div-le-self a b))

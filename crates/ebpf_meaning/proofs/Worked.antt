@@ -23,7 +23,8 @@ pub record Line : Type 0 where
 abbrev registers : (r1 r2 : ℕ) → List ℕ
 registers r1 r2 = 100 ∷ r1 ∷ r2 ∷ 103 ∷ 104 ∷ 105 ∷ 106 ∷ 107 ∷ 108 ∷ 109 ∷ 110 ∷ []
 
-abbrev stepped : Lookup → Insn → List ℕ → List ℕ
+-- the next slot and the registers behind slot 5
+abbrev pub stepped : Lookup → Insn → List ℕ → List ℕ
 stepped (Known k) i r = let a = act k i r in nextSlot 5 a ∷ regsBehind i r a
 stepped Unimplemented i r = []
 stepped Unknown i r = []

@@ -27,7 +27,7 @@ use Rattle.code.proofs.LandingLaws as shared
 use Rattle.jit.specs.MulDivMod.{Code}
 use Rattle.jit.specs.Slots.{slotCode}
 use Rattle.jit.specs.Frame.{saves, packetStart, packetEnd, argument, enter, prologue, epilogue}
-use Rattle.jit.specs.Translation.{Inputs, slotsOf, Block, slotsWide, flat, whole, pageOf, locations, placeOf}
+use Rattle.jit.specs.Translation.{Filter, Inputs, slotsOf, Block, slotsWide, flat, whole, pageOf, locations, placeOf}
 use Rattle.jit.specs.JumpTables.{kindTable, makerTable}
 use Rattle.jit.specs.Passes.{exitOf}
 use Rattle.jit.proofs.FrameLaws.{epilogue-targets}
@@ -107,29 +107,29 @@ record InBlock (program : List ℕ) (n : ℕ) (bs : List Block) (pre : Code) (j 
   divides : kindOf (insnAt program (n + slotsIn ahead) .opc) ≡ Known (MulDivMod Div width Reg)
 
 -- a block with such a jump
-skip-divides : (program : List ℕ) (n : ℕ) (b : Block) → OriginIn program n b → (pre : Code) (j : Jump) (k : ℕ) (post : Code)
+skip-divides : (filter : Filter) (n : ℕ) (b : Block) → OriginIn filter n b → (pre : Code) (j : Jump) (k : ℕ) (post : Code)
     → b .code ≡ pre ++ jump j (near k) ∷ post
-    → (w : Width) × (kindOf (insnAt program n .opc) ≡ Known (MulDivMod Div w Reg))
-skip-divides program n b o pre j k post e = by (slot-skipping (o .origin .mode) (o .origin .kind) n (o .origin .insn) (o .origin .value))
+    → (w : Width) × (kindOf (insnAt (filter .program) n .opc) ≡ Known (MulDivMod Div w Reg))
+skip-divides filter n b o pre j k post e = by (slot-skipping (o .origin .mode) (o .origin .kind) n (o .origin .insn) (o .origin .value))
   where
     code : Code
     code = slotCode (o .origin .mode) (o .origin .kind) n (o .origin .insn) (o .origin .value)
 
-    by : Skipping (o .origin .kind) code → (w : Width) × (kindOf (insnAt program n .opc) ≡ Known (MulDivMod Div w Reg))
+    by : Skipping (o .origin .kind) code → (w : Width) × (kindOf (insnAt (filter .program) n .opc) ≡ Known (MulDivMod Div w Reg))
     by (divides w q) = (w, o .looked ∙ rw q)
     by (none-skips t) = absurd (near-found (λ j k r. false) code pre j k post t (sym (ap (λ (b : Block). b .code) (o .origin .same)) ∙ e))
 
-in-block : (program : List ℕ) (n : ℕ) (bs : List Block) → OriginsIn program n bs → (pre : Code) (j : Jump) (k : ℕ) (post : Code)
-    → flat bs ≡ pre ++ jump j (near k) ∷ post → InBlock program n bs pre j k post
-in-block program n [] o [] j k post e = let z : _≡_ {A = ℕ} 0 1 = cc in absurd (omega arith)
-in-block program n [] o (i ∷ pre) j k post e = let z : _≡_ {A = ℕ} 0 1 = cc in absurd (omega arith)
-in-block program n (b ∷ bs) o pre j k post e =
-    by (cut (b .code) (flat bs) pre (jump j (near k)) post e) (λ more h. in-block program next bs (o .1) more j k post h)
+in-block : (filter : Filter) (n : ℕ) (bs : List Block) → OriginsIn filter n bs → (pre : Code) (j : Jump) (k : ℕ) (post : Code)
+    → flat bs ≡ pre ++ jump j (near k) ∷ post → InBlock (filter .program) n bs pre j k post
+in-block filter n [] o [] j k post e = let z : _≡_ {A = ℕ} 0 1 = cc in absurd (omega arith)
+in-block filter n [] o (i ∷ pre) j k post e = let z : _≡_ {A = ℕ} 0 1 = cc in absurd (omega arith)
+in-block filter n (b ∷ bs) o pre j k post e =
+    by (cut (b .code) (flat bs) pre (jump j (near k)) post e) (λ more h. in-block filter next bs (o .1) more j k post h)
   where
     next : ℕ
     next = n + slotsWide (b .wide)
 
-    later : (more : Code) → pre ≡ b .code ++ more → InBlock program next bs more j k post → InBlock program n (b ∷ bs) pre j k post
+    later : (more : Code) → pre ≡ b .code ++ more → InBlock (filter .program) next bs more j k post → InBlock (filter .program) n (b ∷ bs) pre j k post
     later more p r =
         record {
           ahead = b ∷ r .ahead;
@@ -147,10 +147,10 @@ in-block program n (b ∷ bs) o pre j k post e =
         }
 
     by : Cut (b .code) (flat bs) pre (jump j (near k)) post
-        → ((more : Code) → flat bs ≡ more ++ jump j (near k) ∷ post → InBlock program next bs more j k post)
-        → InBlock program n (b ∷ bs) pre j k post
+        → ((more : Code) → flat bs ≡ more ++ jump j (near k) ∷ post → InBlock (filter .program) next bs more j k post)
+        → InBlock (filter .program) n (b ∷ bs) pre j k post
     by (left more p q) ih =
-        let d = skip-divides program n b (o .0) pre j k more p in
+        let d = skip-divides filter n b (o .0) pre j k more p in
         record {
           ahead = [];
           block = b;
@@ -183,10 +183,10 @@ exit-there f bs =
     }
 
 -- All of it, for the blocks of x.
-module _ (x : Inputs) (bs : List Block) (is-blocks : blocksOf x ≡ bs) (from : OriginsIn (x .filter .program) 0 bs) (short : size (whole (x .flags) bs) < 2 ^ 31)
+module _ (x : Inputs) (bs : List Block) (is-blocks : blocksOf x ≡ bs) (from : OriginsIn (x .filter) 0 bs) (short : size (whole (x .flags) bs) < 2 ^ 31)
     (few : length (locations (x .flags) bs) ≡ slotsOf (x .filter .program) + 1) (good : Goods (slotsOf (x .filter .program)) (targetsOf (whole (x .flags) bs))) where
   o : Origins 0 bs
-  o = origins-of (x .filter .program) 0 bs from
+  o = origins-of (x .filter) 0 bs from
 
   abbrev f : Flags
   f = x .flags
@@ -299,7 +299,7 @@ module _ (x : Inputs) (bs : List Block) (is-blocks : blocksOf x ≡ bs) (from : 
         inFlat : (k : ℕ) → r .dest ≡ near k → (more : Code) → r .pre ≡ prologue f ++ more
             → Cut (flat bs) epilogue more (jump j (near k)) (r .post) → Out
         inFlat k e more p (left post a b) =
-            let c = in-block (x .filter .program) 0 bs from more j k post a in
+            let c = in-block (x .filter) 0 bs from more j k post a in
             out-skip k e more post p b c (skip-found (c .block .code) (c .above) j k (c .below) (c .skips) (c .inside))
         inFlat k e more p (right post a b) = absurd (near-found (λ j k r. false) epilogue post j k (r .post) epilogue-nears b)
 

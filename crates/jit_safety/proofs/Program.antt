@@ -1,6 +1,6 @@
 -- What an accepted translation is made of: the walk's blocks, each the code of one slot whose numbers are in range; and its code, tables
 -- and bounds, read off these.
-use mathlib.Core.Path.{_≡_, refl, ap, _∙_}
+use mathlib.Core.Path.{_≡_, refl, ap, _∙_, subst}
 use mathlib.Core.Bool.{Bool, true, false, _||_}
 use mathlib.Core.List.{List, [], _∷_, _++_}
 use Prim.Native.Nat.{ℕ, zero, suc, _+_, _*_, _^_, _≤_, _<_}
@@ -33,8 +33,8 @@ use Rattle.jit.specs.Limits.{shortestPage, longestPage, longestProgram, anchor}
 use Rattle.jit.specs.Room.{longestCode}
 use Rattle.jit.specs.Frame.{prologue, epilogue}
 use Rattle.jit.proofs.FrameLaws.{prologue-targets, epilogue-targets}
-use Rattle.jit.specs.Translation.{Inputs, slotsOf, found, helperOf, Block, blockOf, Operand, lacks, has, wideValue, swapBits, leBits, swapValue, helperValue, operandOf, Step}
-use Rattle.jit.specs.Translation.{stop, go, taken, known, goodRegisters, stepRead, stepAt, Walk, refused, done, slotsWide, within, after, rest, flat}
+use Rattle.jit.specs.Translation.{Filter, Inputs, slotsOf, found, helperOf, Block, blockOf, Operand, lacks, has, wideValue, swapBits, leBits, swapValue, helperValue, operandOf, Step}
+use Rattle.jit.specs.Translation.{stop, go, taken, known, goodRegisters, stepRead, stepAt, Walk, refused, done, slotsWide, slotsIn, within, after, rest, flat}
 use Rattle.jit.specs.Translation.{goodTarget, badIn, orElse, firstBad, Outcome, no, yes, whole, locations, placeOf, accepted, unlessBad, finish, walkOf}
 use Rattle.jit.specs.Passes.{exitOf}
 use Rattle.jit.specs.Translation.{badHelpers, shortTable, sizesOf, translationOf}
@@ -52,14 +52,15 @@ pub record Origin (slot : ℕ) (b : Block) : Type 0 where
   pub same : b ≡ blockOf mode kind slot insn value
   pub numbers : Numbers slot insn value
 
--- the slot is the program's: its opcode has that kind
-pub record OriginIn (program : List ℕ) (slot : ℕ) (b : Block) : Type 0 where
+-- the slot is the filter's: its opcode has that kind, and its step gave the block
+pub record OriginIn (filter : Filter) (slot : ℕ) (b : Block) : Type 0 where
   pub origin : Origin slot b
-  pub looked : kindOf (insnAt program slot .opc) ≡ Known (origin .kind)
+  pub looked : kindOf (insnAt (filter .program) slot .opc) ≡ Known (origin .kind)
+  pub step : stepAt filter slot ≡ go b
 
-abbrev Comes : (program : List ℕ) → ℕ → Step → Type 0
-Comes program slot (stop r) = Unit {0}
-Comes program slot (go b) = OriginIn program slot b
+abbrev Comes : (filter : Filter) → ℕ → Step → Type 0
+Comes filter slot (stop r) = Unit {0}
+Comes filter slot (go b) = stepAt filter slot ≡ go b → OriginIn filter slot b
 
 -- One slot.
 module _ (x : Inputs) (given : Given x) where
@@ -77,7 +78,7 @@ module _ (x : Inputs) (given : Given x) where
       let at = 8 * slot + 2 in
       extend-lt (le2 (x .filter .program) at) (omega (arith, given .bytes at, given .bytes (at + 1)))
 
-  imm-lt : (slot : ℕ) → insnAt (x .filter .program) slot .imm < 2 ^ 32
+  pub imm-lt : (slot : ℕ) → insnAt (x .filter .program) slot .imm < 2 ^ 32
   unfolding insnAt
   imm-lt slot =
       let at = 8 * slot + 4 in
@@ -98,13 +99,13 @@ module _ (x : Inputs) (given : Given x) where
     abbrev Looks : Lookup → Type 0
     Looks l = kindOf (insnAt (x .filter .program) slot .opc) ≡ l
 
-    comes : (k : Kind) (value : ℕ) → value < 2 ^ 64 → Looks (Known k) → Comes (x .filter .program) slot (go (blockOf (x .filter .mode) k slot (insnAt (x .filter .program) slot) value))
-    comes k value h e =
+    comes : (k : Kind) (value : ℕ) → value < 2 ^ 64 → Looks (Known k) → Comes (x .filter) slot (go (blockOf (x .filter .mode) k slot (insnAt (x .filter .program) slot) value))
+    comes k value h e q =
         let n : Numbers slot (insnAt (x .filter .program) slot) value = record { here = small; off = off-lt slot; imm = imm-lt slot; wide = h } in
-        record { origin = record { mode = x .filter .mode; kind = k; insn = insnAt (x .filter .program) slot; value = value; same = refl; numbers = n }; looked = e }
+        record { origin = record { mode = x .filter .mode; kind = k; insn = insnAt (x .filter .program) slot; value = value; same = refl; numbers = n }; looked = e; step = q }
 
     abbrev Taken : Kind → Operand → Type 0
-    Taken k o = Looks (Known k) → Comes (x .filter .program) slot (taken (x .filter .mode) k slot (insnAt (x .filter .program) slot) o)
+    Taken k o = Looks (Known k) → Comes (x .filter) slot (taken (x .filter .mode) k slot (insnAt (x .filter .program) slot) o)
 
     taken-wide : (t : Bool)
         → Taken LdDwImm (wideValue slot (insnAt (x .filter .program) slot) (pick t Torn (Whole (insnAt (x .filter .program) (slot + 1)))))
@@ -151,21 +152,21 @@ module _ (x : Inputs) (given : Given x) where
     abbrev step : Lookup → Step
     step l = known (x .filter) l slot (insnAt (x .filter .program) slot) (readAt (x .filter .program) (slot + 1))
 
-    known-comes : (l : Lookup) → Looks l → Comes (x .filter .program) slot (step l)
+    known-comes : (l : Lookup) → Looks l → Comes (x .filter) slot (step l)
     known-comes Unknown e = tt
     known-comes Unimplemented e = tt
     known-comes (Known k) e = taken-kind k e
 
-    registers-comes : (t : Bool) (l : Lookup) → Looks l → Comes (x .filter .program) slot (pick t (step l) (stop (Refusal.BadRegister (record { number = slot }))))
+    registers-comes : (t : Bool) (l : Lookup) → Looks l → Comes (x .filter) slot (pick t (step l) (stop (Refusal.BadRegister (record { number = slot }))))
     registers-comes true l e = known-comes l e
     registers-comes false l e = tt
 
-    step-comes : Comes (x .filter .program) slot (stepAt (x .filter) slot)
+    step-comes : Comes (x .filter) slot (stepAt (x .filter) slot)
     unfolding stepAt readAt
     step-comes = by (ltb (length (x .filter .program)) (8 * slot + 8))
       where
         by : (t : Bool)
-            → Comes (x .filter .program) slot
+            → Comes (x .filter) slot
             (stepRead (x .filter) slot (pick t Torn (Whole (insnAt (x .filter .program) slot)))
             (readAt (x .filter .program) (slot + 1)))
         by true = tt
@@ -176,34 +177,41 @@ abbrev pub Origins : ℕ → List Block → Type 0
 Origins slot [] = Unit {0}
 Origins slot (b ∷ bs) = Origin slot b × Origins (slot + slotsWide (b .wide)) bs
 
-abbrev pub OriginsIn : (program : List ℕ) → ℕ → List Block → Type 0
-OriginsIn program slot [] = Unit {0}
-OriginsIn program slot (b ∷ bs) = OriginIn program slot b × OriginsIn program (slot + slotsWide (b .wide)) bs
+abbrev pub OriginsIn : (filter : Filter) → ℕ → List Block → Type 0
+OriginsIn filter slot [] = Unit {0}
+OriginsIn filter slot (b ∷ bs) = OriginIn filter slot b × OriginsIn filter (slot + slotsWide (b .wide)) bs
 
-pub origins-of : (program : List ℕ) (slot : ℕ) (bs : List Block) → OriginsIn program slot bs → Origins slot bs
-origins-of program slot [] o = tt
-origins-of program slot (b ∷ bs) o = (o .0 .origin, origins-of program (slot + slotsWide (b .wide)) bs (o .1))
+pub origins-of : (filter : Filter) (slot : ℕ) (bs : List Block) → OriginsIn filter slot bs → Origins slot bs
+origins-of filter slot [] o = tt
+origins-of filter slot (b ∷ bs) o = (o .0 .origin, origins-of filter (slot + slotsWide (b .wide)) bs (o .1))
 
-abbrev Came : (program : List ℕ) → ℕ → Walk → Type 0
-Came program slot (refused r) = Unit {0}
-Came program slot (done bs) = OriginsIn program slot bs
+-- the block that begins at a slot is that slot's
+pub origin-at : (filter : Filter) (n : ℕ) (ahead : List Block) (b : Block) (behind : List Block) → OriginsIn filter n (ahead ++ b ∷ behind)
+    → OriginIn filter (n + slotsIn ahead) b
+origin-at filter n [] b behind o = subst (λ (n : ℕ). OriginIn filter n b) (omega arith) (o .0)
+origin-at filter n (a ∷ ahead) b behind o =
+    subst (λ (n : ℕ). OriginIn filter n b) (omega arith) (origin-at filter (n + slotsWide (a .wide)) ahead b behind (o .1))
+
+abbrev Came : (filter : Filter) → ℕ → Walk → Type 0
+Came filter slot (refused r) = Unit {0}
+Came filter slot (done bs) = OriginsIn filter slot bs
 
 module _ (x : Inputs) (given : Given x) (few : length (x .filter .program) ≤ longestProgram) where
-  came-within : (t : Bool) (slot : ℕ) (b : Block) (w : Walk) → OriginIn (x .filter .program) slot b → Came (x .filter .program) (slot + slotsWide (b .wide)) w
-      → Came (x .filter .program) slot (within t slot b w)
+  came-within : (t : Bool) (slot : ℕ) (b : Block) (w : Walk) → OriginIn (x .filter) slot b → Came (x .filter) (slot + slotsWide (b .wide)) w
+      → Came (x .filter) slot (within t slot b w)
   came-within true slot b (refused r) h g = tt
   came-within true slot b (done bs) h g = (h, g)
   came-within false slot b w h g = tt
 
-  came-after : (slot place : ℕ) (s : Step) (k : ℕ → ℕ → Walk) → Comes (x .filter .program) slot s → ((t p : ℕ) → Came (x .filter .program) t (k t p))
-      → Came (x .filter .program) slot (after (x .page) slot place s k)
-  came-after slot place (stop r) k h g = tt
-  came-after slot place (go b) k h g =
+  came-after : (slot place : ℕ) (s : Step) (k : ℕ → ℕ → Walk) → stepAt (x .filter) slot ≡ s → Comes (x .filter) slot s → ((t p : ℕ) → Came (x .filter) t (k t p))
+      → Came (x .filter) slot (after (x .page) slot place s k)
+  came-after slot place (stop r) k e h g = tt
+  came-after slot place (go b) k e h g =
       let next = slot + slotsWide (b .wide) in
       let p = place + size (b .code) in
-      came-within (leb p (x .page)) slot b (k next p) h (g next p)
+      came-within (leb p (x .page)) slot b (k next p) (h e) (g next p)
 
-  came-rest : (fuel slot place : ℕ) → Came (x .filter .program) slot (rest fuel (x .filter) (x .page) slot place)
+  came-rest : (fuel slot place : ℕ) → Came (x .filter) slot (rest fuel (x .filter) (x .page) slot place)
   unfolding rest
   came-rest zero slot place = tt
   came-rest (suc fuel) slot place = by (ltb (8 * slot) (length (x .filter .program))) refl (λ t p. came-rest fuel t p)
@@ -211,9 +219,9 @@ module _ (x : Inputs) (given : Given x) (few : length (x .filter .program) ≤ l
       more : ℕ → ℕ → Walk
       more s p = rest fuel (x .filter) (x .page) s p
 
-      by : (t : Bool) → ltb (8 * slot) (length (x .filter .program)) ≡ t → ((t p : ℕ) → Came (x .filter .program) t (more t p))
-          → Came (x .filter .program) slot (pick t (after (x .page) slot place (stepAt (x .filter) slot) more) (done []))
-      by true e ih = came-after slot place (stepAt (x .filter) slot) more (step-comes x given slot (omega (arith, ltb-true (8 * slot) (length (x .filter .program)) e))) ih
+      by : (t : Bool) → ltb (8 * slot) (length (x .filter .program)) ≡ t → ((t p : ℕ) → Came (x .filter) t (more t p))
+          → Came (x .filter) slot (pick t (after (x .page) slot place (stepAt (x .filter) slot) more) (done []))
+      by true e ih = came-after slot place (stepAt (x .filter) slot) more refl (step-comes x given slot (omega (arith, ltb-true (8 * slot) (length (x .filter .program)) e))) ih
       by false e ih = tt
 
 -- Every recorded target is a slot, n or the anchor.
@@ -253,7 +261,7 @@ goods-whole n f bs e =
 pub record Parts (x : Inputs) (code locs fields targets : List ℕ) : Type 0 where
   pub blocks : List Block
   pub walked : walkOf x ≡ done blocks
-  pub origins : OriginsIn (x .filter .program) 0 blocks
+  pub origins : OriginsIn (x .filter) 0 blocks
   pub few : length (locations (x .flags) blocks) ≡ slotsOf (x .filter .program) + 1
   pub short : size (whole (x .flags) blocks) < 2 ^ 31
   pub good : Goods (slotsOf (x .filter .program)) (targetsOf (whole (x .flags) blocks))
@@ -269,7 +277,7 @@ module _ (x : Inputs) (given : Given x) (code locs fields targets : List ℕ) wh
   abbrev f : Flags
   f = x .flags
 
-  parts-blocks : (bs : List Block) → walkOf x ≡ done bs → OriginsIn (x .filter .program) 0 bs → length code ≤ longestCode
+  parts-blocks : (bs : List Block) → walkOf x ≡ done bs → OriginsIn (x .filter) 0 bs → length code ≤ longestCode
       → firstBad (slotsOf (x .filter .program)) 0 bs ≡ Nowhere
       → accepted f bs ≡ yes code locs fields targets → Parts x code locs fields targets
   parts-blocks bs w o l g e =
@@ -289,7 +297,7 @@ module _ (x : Inputs) (given : Given x) (code locs fields targets : List ℕ) wh
         is-targets = cc;
       }
 
-  parts-finish : (w : Walk) → walkOf x ≡ w → Came (x .filter .program) 0 w → length code ≤ longestCode
+  parts-finish : (w : Walk) → walkOf x ≡ w → Came (x .filter) 0 w → length code ≤ longestCode
       → finish f (slotsOf (x .filter .program)) (x .page) w ≡ yes code locs fields targets → Parts x code locs fields targets
   parts-finish (refused r) q o l e = refuses e
   parts-finish (done bs) q o l e = by (leb (size (whole f bs)) (x .page)) (firstBad (slotsOf (x .filter .program)) 0 bs) refl e

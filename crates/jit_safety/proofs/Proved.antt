@@ -147,10 +147,10 @@ module _ (f : Flags) (bs : List Block) (o : Origins 0 bs) (short : size (whole f
       }
 
 -- All four.
-module _ (x : Inputs) (bs : List Block) (walked : walkOf x ≡ done bs) (from : OriginsIn (x .filter .program) 0 bs) (short : size (whole (x .flags) bs) < 2 ^ 31)
+module _ (x : Inputs) (bs : List Block) (walked : walkOf x ≡ done bs) (from : OriginsIn (x .filter) 0 bs) (short : size (whole (x .flags) bs) < 2 ^ 31)
     (few : length (locations (x .flags) bs) ≡ slotsOf (x .filter .program) + 1) (good : Goods (slotsOf (x .filter .program)) (targetsOf (whole (x .flags) bs))) where
   o : Origins 0 bs
-  o = origins-of (x .filter .program) 0 bs from
+  o = origins-of (x .filter) 0 bs from
 
   abbrev f : Flags
   f = x .flags

@@ -16,11 +16,13 @@ use Rattle.jit_safety.specs.Demand3.{Given, Demand3}
 use Rattle.jit_safety.proofs.Program.{parts}
 use Rattle.jit_safety.proofs.Proved.{demand3}
 use Rattle.jit_safety.proofs.Useless.{division-raises}
+use Rattle.jit_agrees.specs.Agrees.{Agrees}
+use Rattle.jit_agrees.proofs.Proved.{agrees, follows-all}
 use Rattle.jit_translate.specs.Translated.{Translated, answerOf, codeIn, locationsIn, fieldsIn, targetsIn}
 use Rattle.jit_translate.proofs.TranslatedLaws.{one-answer}
 use Rattle.jit_translate.specs.declared.translate.Answer.{Answer}
 use Rattle.jit_translate.specs.declared.translate.Answer.the-variants.{Accepted, Refused}
-use Rattle.jit_theorem.specs.Theorem.{Buffers, Translates, Names, RefusalChangesNothing, PageIsSafe, Promise, Theorem}
+use Rattle.jit_theorem.specs.Theorem.{Buffers, Translates, Names, RefusalChangesNothing, PageIsSafe, PageAgrees, Promise, Theorem}
 
 same : (a b : Buffers) → a .code ≡ b .code → a .locations ≡ b .locations → a .fields ≡ b .fields → a .targets ≡ b .targets
     → a .kinds ≡ b .kinds → a .makers ≡ b .makers → a ≡ b
@@ -77,6 +79,26 @@ safe-of : (x : Inputs) → Given x → (before after : Buffers) (r : Answer) →
     → PageIsSafe x after r
 safe-of x given before after r h n L J e = of-outcome x given (before .kinds) (before .makers) (translationOf x) refl (rw e at h) (n .kinds) (n .makers)
 
+-- the code does what the slot says
+agrees-of : (x : Inputs) → Given x → (before after : Buffers) (r : Answer) → Translates x before after r → PageAgrees x after r
+agrees-of x given before after r h L J accepts std = by (translationOf x) refl (rw accepts at h)
+  where
+    n : ℕ
+    n = slotsOf (x .filter .program) + 1
+
+    by : (o : Outcome) → translationOf x ≡ o
+        → Translated o (before .code) (after .code) (before .locations) (after .locations)
+        (before .fields) (after .fields) (before .targets) (after .targets) (Accepted L J)
+        → Agrees (x .filter .program) (take L (after .code)) (take n (after .locations))
+    by (no q) e g = let a = g .answer in let z : _≡_ {A = ℕ} 0 1 = cc in absurd (omega arith)
+    by (yes code locs fields targets) e g =
+        let p = parts x given code locs fields targets e in
+        let a = g .answer in
+        let s : length code ≡ L = cc in
+        let all : length locs ≡ n = rw (p .is-locs) (p .few) in
+        rw (g .code, g .locations, take-over code (before .code) L s, take-over locs (before .locations) n all)
+        (agrees x given code locs fields targets e std)
+
 pub kept : (x : Inputs) → Given x → (before after : Buffers) (r : Answer) → Translates x before after r → Names x before after
     → Promise x before after r
 kept x given before after r h n =
@@ -86,6 +108,7 @@ kept x given before after r h n =
       names = n;
       safe = safe-of x given before after r h n;
       division = λ L J e us s b. division-raises x _ _ _ _ _ _ (safe-of x given before after r h n L J e) us s b;
+      agrees = agrees-of x given before after r h;
     }
 
 pub theorem : Theorem
@@ -114,4 +137,5 @@ theorem =
           (one .0, same after other (one .1) (one .2) (one .3) (one .4) k m);
       modes = modes;
       compact = compact;
+      paths = follows-all;
     }

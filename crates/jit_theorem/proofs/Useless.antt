@@ -2,6 +2,7 @@
 use mathlib.Core.Path.{_≡_, refl, ap}
 use mathlib.Core.Logic.{_≢_}
 use mathlib.Core.List.{List}
+use mathlib.Core.Bool.{true}
 use Prim.Native.Nat.{ℕ}
 use lib.ListN.{take}
 use Rattle.x86.specs.Decode.{readAll, all}
@@ -11,10 +12,11 @@ use Rattle.jit.specs.Translation.{Inputs, no, translationOf}
 use Rattle.base.specs.Lists.{over}
 use Rattle.jit.specs.JumpTables.{kindsIn, makersIn}
 use Rattle.jit_safety.specs.Demand3.{Given, instructionsOf, Begins}
+use Rattle.jit_agrees.specs.Agrees.{Agrees}
 use Rattle.jit_translate.specs.Translated.{answerOf}
 use Rattle.jit_translate.specs.declared.translate.Answer.{Answer}
 use Rattle.jit_translate.specs.declared.translate.Answer.the-variants.{Accepted, Refused}
-use Rattle.jit_theorem.specs.Theorem.{Buffers, Promise}
+use Rattle.jit_theorem.specs.Theorem.{Buffers, locationsOf, Promise}
 use Rattle.jit_theorem.proofs.Proved.{theorem}
 
 module _ {x : Inputs} {before after : Buffers} where
@@ -50,6 +52,12 @@ module _ {x : Inputs} {before after : Buffers} where
   pub raises : {L J : ℕ} (us : List Input) (s : State) → Begins s → run (take L (after .code)) us s ≡ divided
       → Promise x before after (Accepted L J) → ⊥
   raises us s b e p = p .division _ _ refl us s b e
+
+  -- in standard mode: a page on which a slot's code does something else
+  pub does-otherwise : {L J : ℕ} → x .filter .mode .standard ≡ true
+      → (Agrees (x .filter .program) (take L (after .code)) (locationsOf x after) → ⊥)
+      → Promise x before after (Accepted L J) → ⊥
+  does-otherwise std n p = n (p .agrees _ _ refl std)
 
 -- the theorem: something that has no answer; two answers to one question; the same answer with other buffers
 pub unanswered : (x : Inputs) → Given x → (before : Buffers) → ((r : Answer) (after : Buffers) → Promise x before after r → ⊥) → ⊥

@@ -9,11 +9,16 @@
 --   Named
 --   Machine         the processor: what an instruction does, what a run is                 crates/x86_machine/specs/Machine.antt
 --   Demand3         reading, landing, staying, the stack pointer, over that processor      crates/jit_safety/specs/Demand3.antt
+--   act             what a slot of arithmetic, a move, a swap or a jump does, by RFC 9669  crates/ebpf_meaning/specs/Step.antt
+--   Agrees,         that the slot's code does so on that processor, slot after slot        crates/jit_agrees/specs/Agrees.antt,
+--   FollowsAll                                                                             Runs.antt, Follows.antt
 --
--- `Promise` says the three demands of one call. `Theorem` says that every call keeps it, and that it can always be kept, in one way only.
+-- `Promise` says of one call the three demands, and that the code does what its slots say. `Theorem` says that every call keeps it, and that it
+-- can always be kept, in one way only.
 -- proofs/Proved.antt proves `Theorem`; `ndakoleem_translate_4`, which a loader calls, has `Promise` in its contract and asks nothing.
 -- That `translate` ends, and touches only what it was lent, Rattle proves of every function.
 use mathlib.Core.Path.{_≡_}
+use mathlib.Core.Bool.{true}
 use mathlib.Core.List.{List}
 use Prim.Native.Nat.{ℕ, _+_}
 use lib.ListN.{take}
@@ -23,6 +28,8 @@ use Rattle.jit.specs.Modes.{Modes}
 use Rattle.jit.specs.Compact.{Compact}
 use Rattle.x86_machine.specs.Machine.{State, Input, divided, run}
 use Rattle.jit_safety.specs.Demand3.{Given, Begins, Demand3}
+use Rattle.jit_agrees.specs.Agrees.{Agrees}
+use Rattle.jit_agrees.specs.Follows.{FollowsAll}
 use Rattle.jit_translate.specs.Translated.{Translated, Named}
 use Rattle.jit_translate.specs.declared.translate.Answer.{Answer}
 use Rattle.jit_translate.specs.declared.translate.Answer.the-variants.{Accepted, Refused}
@@ -35,6 +42,10 @@ pub record Buffers : Type 0 where
   pub targets : List ℕ
   pub kinds : List ℕ
   pub makers : List ℕ
+
+-- the locations 0 to n
+abbrev pub locationsOf : Inputs → Buffers → List ℕ
+locationsOf x b = take (slotsOf (x .filter .program) + 1) (b .locations)
 
 -- DEMAND 1. Whatever is asked has an answer, one only: finished code, or one refusal, and then nothing that was lent is changed.
 -- (That there is one, and one only, is `answered` and `only` below.)
@@ -64,12 +75,19 @@ Names x before after = Named x (before .kinds) (after .kinds) (before .makers) (
 abbrev pub PageIsSafe : Inputs → (after : Buffers) → Answer → Type 0
 PageIsSafe x after r =
     (L J : ℕ) → r ≡ Accepted L J
-    → Demand3 x (take L (after .code)) (take (slotsOf (x .filter .program) + 1) (after .locations)) (take J (after .fields)) (take J (after .targets))
-    (take J (after .kinds)) (take J (after .makers))
+    → Demand3 x (take L (after .code)) (locationsOf x after) (take J (after .fields)) (take J (after .targets)) (take J (after .kinds))
+    (take J (after .makers))
 
 -- .. of which one thing by itself: no run of an accepted page raises #DE.
 abbrev pub NoDivisionFaults : (after : Buffers) → Answer → Type 0
 NoDivisionFaults after r = (L J : ℕ) → r ≡ Accepted L J → (us : List Input) (s : State) → Begins s → run (take L (after .code)) us s ≡ divided → ⊥
+
+-- THE CODE DOES WHAT THE SLOT SAYS. In standard mode, compact or not, every slot of arithmetic, a move, a byte swap, JA or a conditional jump
+-- leaves what RFC 9669's step leaves, and goes where it goes, if that slot has a location: of those L bytes, from the slot's location in
+-- those n + 1 entries on.
+abbrev pub PageAgrees : Inputs → (after : Buffers) → Answer → Type 0
+PageAgrees x after r =
+    (L J : ℕ) → r ≡ Accepted L J → x .filter .mode .standard ≡ true → Agrees (x .filter .program) (take L (after .code)) (locationsOf x after)
 
 pub record Promise (x : Inputs) (before after : Buffers) (r : Answer) : Type 0 where
   pub refusal : RefusalChangesNothing x before after r
@@ -77,6 +95,7 @@ pub record Promise (x : Inputs) (before after : Buffers) (r : Answer) : Type 0 w
   pub names : Names x before after
   pub safe : PageIsSafe x after r
   pub division : NoDivisionFaults after r
+  pub agrees : PageAgrees x after r
 
 -- THE THEOREM. Its one premise is `Given`: the program's bytes are below 2 ^ 8 and the helpers' addresses below 2 ^ 64, which Rattle says
 -- of every slice. Nothing else is asked: of the program, the mode, the flags, the helpers, the lengths or the contents of what is lent.
@@ -93,3 +112,5 @@ pub record Theorem : Type 0 where
   pub modes : Modes
   -- compact constants are all that their flag changes; what was accepted is accepted, and 13 comes later or not at all
   pub compact : Compact
+  -- code that agrees with RFC 9669's steps slot by slot agrees with them along every path of such slots
+  pub paths : (program code locs : List ℕ) → Agrees program code locs → FollowsAll program code locs

@@ -1,19 +1,23 @@
--- The laws of specs/Exported.antt: one struct only; a page that is answered with number 0 is safe; how the contract is met.
+-- The laws of specs/Exported.antt: one struct only; a page that is answered with number 0 is safe, and in standard mode does what its slots say;
+-- how the contract is met.
 use mathlib.Core.Path.{_≡_, _∙_, ap, sym, refl}
+use mathlib.Core.Bool.{true}
 use mathlib.Core.List.{List}
-use Prim.Native.Nat.{ℕ, _+_, _≤_}
+use Prim.Native.Nat.{ℕ, _≤_}
 use native.Mathlib.Omega.{arith}
 use lib.ListN.{take}
 use Rattle.jit.specs.declared.Refusal.{Refusal}
 use Rattle.jit.specs.declared.Refusal.the-variants as refusal
 use Rattle.jit.specs.Refusals.{numberOf}
-use Rattle.jit.specs.Translation.{Inputs, slotsOf}
+use Rattle.jit.specs.Translation.{Inputs}
 use Rattle.x86_machine.specs.Machine.{State, Input, divided, run}
 use Rattle.jit_safety.specs.Demand3.{Given, Begins, Demand3}
 use Rattle.jit_safety.proofs.Useless.{division-raises}
+use Rattle.jit_agrees.specs.Agrees.{Agrees}
+use Rattle.jit_agrees.specs.Follows.{FollowsAll}
 use Rattle.jit_translate.specs.declared.translate.Answer.{Answer}
 use Rattle.jit_translate.specs.declared.translate.Answer.the-variants.{Accepted, Refused}
-use Rattle.jit_theorem.specs.Theorem.{Buffers, Translates, Names, Promise}
+use Rattle.jit_theorem.specs.Theorem.{Buffers, locationsOf, Translates, Names, Promise}
 use Rattle.jit_theorem.proofs.Proved.{theorem}
 use Rattle.ndakoleem.specs.declared.Translation.{Translation}
 use Rattle.ndakoleem.specs.Exported.{numberIn, slotIn, lengthIn, jumpsIn, Exported}
@@ -52,12 +56,12 @@ numbered (refusal.BadTarget s) = omega arith
 
 -- So what has it is accepted, and demand 3 holds of as much as the struct says.
 pub safe : {x : Inputs} {before after : Buffers} {r : Translation} → Exported x before after r → r .number ≡ 0
-    → Demand3 x (take (r .length) (after .code)) (take (slotsOf (x .filter .program) + 1) (after .locations))
+    → Demand3 x (take (r .length) (after .code)) (locationsOf x after)
     (take (r .jumps) (after .fields)) (take (r .jumps) (after .targets)) (take (r .jumps) (after .kinds)) (take (r .jumps) (after .makers))
 safe {x} {before} {after} h z = rw (h .length-is, h .jumps-are) (by (h .answer) (h .promise) (sym (h .number-is) ∙ z))
   where
     by : (a : Answer) → Promise x before after a → numberIn a ≡ 0
-        → Demand3 x (take (lengthIn a) (after .code)) (take (slotsOf (x .filter .program) + 1) (after .locations))
+        → Demand3 x (take (lengthIn a) (after .code)) (locationsOf x after)
         (take (jumpsIn a) (after .fields)) (take (jumpsIn a) (after .targets)) (take (jumpsIn a) (after .kinds)) (take (jumpsIn a) (after .makers))
     by (Accepted l j) p e = p .safe l j refl
     by (Refused q) p e = absurd (omega (arith, numbered q, e))
@@ -66,6 +70,23 @@ safe {x} {before} {after} h z = rw (h .length-is, h .jumps-are) (by (h .answer) 
 pub never-faults : {x : Inputs} {before after : Buffers} {r : Translation} → Exported x before after r → r .number ≡ 0
     → (us : List Input) (s : State) → Begins s → run (take (r .length) (after .code)) us s ≡ divided → ⊥
 never-faults h z = division-raises _ _ _ _ _ _ _ (safe h z)
+
+-- .. and in standard mode each slot of arithmetic, a move, a swap or a jump does on the processor what RFC 9669's step does.
+pub agrees : {x : Inputs} {before after : Buffers} {r : Translation} → Exported x before after r → r .number ≡ 0
+    → x .filter .mode .standard ≡ true
+    → Agrees (x .filter .program) (take (r .length) (after .code)) (locationsOf x after)
+agrees {x} {before} {after} h z std = rw (h .length-is) (by (h .answer) (h .promise) (sym (h .number-is) ∙ z))
+  where
+    by : (a : Answer) → Promise x before after a → numberIn a ≡ 0
+        → Agrees (x .filter .program) (take (lengthIn a) (after .code)) (locationsOf x after)
+    by (Accepted l j) p e = p .agrees l j refl std
+    by (Refused q) p e = absurd (omega (arith, numbered q, e))
+
+-- .. and so along every path of such slots
+pub follows : {x : Inputs} {before after : Buffers} {r : Translation} → Exported x before after r → r .number ≡ 0
+    → x .filter .mode .standard ≡ true
+    → FollowsAll (x .filter .program) (take (r .length) (after .code)) (locationsOf x after)
+follows h z std = theorem .paths _ _ _ (agrees h z std)
 
 -- The struct of an answer's four numbers meets the contract.
 pub exported : (x : Inputs) → Given x → {before after : Buffers} {a : Answer} {number slot bytes jumps : ℕ} → Translates x before after a

@@ -1,6 +1,7 @@
--- What the exported function answers: all three demands (`Promise`, crates/jit_theorem/specs/Theorem.antt), of an answer whose four numbers
--- are the struct's. No refusal has number 0, so where the number is 0 the page that was written is read, lands, stays and returns as
--- `Demand3` says (`safe`, proofs/ExportedLaws.antt).
+-- What the exported function answers: all three demands, and that the code does what its slots say (`Promise`,
+-- crates/jit_theorem/specs/Theorem.antt), of an answer whose four numbers are the struct's. No refusal has number 0, so where the number is
+-- 0 the page that was written is read, lands, stays and returns as `Demand3` says, and in standard mode its slots do as `Agrees` says
+-- (`safe` and `agrees`, proofs/ExportedLaws.antt).
 use mathlib.Core.Path.{_≡_}
 use Prim.Native.Nat.{ℕ}
 use Rattle.jit.specs.Refusals.{numberOf, slotOf}
