@@ -1,6 +1,6 @@
 -- Which slots the statement leaves out by their location: of an accepted program those alone that are a wide load's second half. So every other
 -- slot has a start from which it is said what it does.
-use mathlib.Core.Path.{_≡_, refl, ap, sym, _∙_, subst}
+use mathlib.Core.Path.{_≡_, ap, sym, _∙_, subst}
 use mathlib.Core.Logic.{_≢_}
 use mathlib.Core.Bool.{true}
 use mathlib.Core.List.{List}
@@ -10,37 +10,17 @@ use lib.ListN.{getD}
 use Rattle.ebpf.specs.Insn.{insnAt}
 use Rattle.ebpf.specs.Opcode.{kindOf}
 use Rattle.ebpf.specs.declared.kind.Kind.{Kind}
-use Rattle.ebpf.specs.declared.kind.Kind.the-variants.{LdAbs, LdInd, LdDwImm, LdReg, StImm, StReg, Alu, Shift, Neg, MulDivMod, Mov, Le, Be, Ja, Jump, Call, Exit}
+use Rattle.ebpf.specs.declared.kind.Kind.the-variants.{LdDwImm}
 use Rattle.ebpf.specs.declared.kind.Lookup.the-variants.{Known}
 use Rattle.x86.specs.Encode.{isa}
 use Rattle.x86.specs.Code.{size}
-use Rattle.code.proofs.LandingLaws.{never}
 use Rattle.code.proofs.PageLaws.{length-locations}
 use Rattle.jit.specs.Frame.{prologue}
 use Rattle.jit.specs.Translation.{Filter, Inputs, Block, slotsOf, slotsIn, wideKind, pageOf, yes, translationOf}
 use Rattle.jit_safety.specs.Demand3.{Given}
 use Rattle.jit_safety.proofs.Program.{Parts, parts, OriginIn, OriginsIn, origin-at}
 use Rattle.jit_agrees.proofs.Places.{Half, half}
-use Rattle.jit_agrees.proofs.OnPage.{prologue-some}
-
-wide-load : (k : Kind) → wideKind k ≡ true → k ≡ LdDwImm
-wide-load (LdAbs z) e = never (sym e)
-wide-load (LdInd z) e = never (sym e)
-wide-load LdDwImm e = refl
-wide-load (LdReg z) e = never (sym e)
-wide-load (StImm z) e = never (sym e)
-wide-load (StReg z) e = never (sym e)
-wide-load (Alu o w s) e = never (sym e)
-wide-load (Shift o w s) e = never (sym e)
-wide-load (Neg w) e = never (sym e)
-wide-load (MulDivMod o w s) e = never (sym e)
-wide-load (Mov w s) e = never (sym e)
-wide-load Le e = never (sym e)
-wide-load Be e = never (sym e)
-wide-load Ja e = never (sym e)
-wide-load (Jump c w s) e = never (sym e)
-wide-load Call e = never (sym e)
-wide-load Exit e = never (sym e)
+use Rattle.jit_agrees.proofs.OnPage.{wide-load, prologue-some}
 
 -- a wide block is a wide load's
 wide-origin : (filter : Filter) (n : ℕ) (b : Block) → OriginIn filter n b → b .wide ≡ true

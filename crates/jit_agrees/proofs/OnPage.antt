@@ -27,7 +27,7 @@ use Rattle.jit.specs.Frame.{prologue, epilogue}
 use Rattle.jit.specs.Slots.{regOf, targetOf, slotCode}
 use Rattle.jit.specs.Passes.{exitOf}
 use Rattle.jit.specs.Translation.{Block, flat, wideKind, swapBits, whole, locations, pageOf, placeOf}
-use Rattle.jit.proofs.FrameLaws.{prologue-size}
+use Rattle.jit.proofs.FrameLaws.{prologue-parts}
 use Rattle.x86_machine.specs.Machine.{Regs, State}
 use Rattle.jit_agrees.specs.Agrees.{Mapped, GoesTo, atLocation, atEpilogue, Behind, mayBeEmpty, Does}
 use Rattle.jit_agrees.proofs.RunsLaws.{leads-on}
@@ -38,25 +38,32 @@ use Rattle.jit_agrees.proofs.Slots.{Fulfils, standardWith, fulfils}
 use Rattle.jit_agrees.proofs.Mapping.{wrote-mapped}
 use Rattle.jit_agrees.proofs.Places.{flat-append, next-start, next-none}
 
--- A kind of which the step speaks is no wide load, and a jump has code.
+-- The one kind that takes two slots is a wide load, of which the step does not speak; and a jump has code.
+pub wide-load : (k : Kind) → wideKind k ≡ true → k ≡ LdDwImm
+wide-load (LdAbs z) e = never (sym e)
+wide-load (LdInd z) e = never (sym e)
+wide-load LdDwImm e = refl
+wide-load (LdReg z) e = never (sym e)
+wide-load (StImm z) e = never (sym e)
+wide-load (StReg z) e = never (sym e)
+wide-load (Alu o w s) e = never (sym e)
+wide-load (Shift o w s) e = never (sym e)
+wide-load (Neg w) e = never (sym e)
+wide-load (MulDivMod o w s) e = never (sym e)
+wide-load (Mov w s) e = never (sym e)
+wide-load Le e = never (sym e)
+wide-load Be e = never (sym e)
+wide-load Ja e = never (sym e)
+wide-load (Jump c w s) e = never (sym e)
+wide-load Call e = never (sym e)
+wide-load Exit e = never (sym e)
+
 pub narrow : (k : Kind) (i : Insn) (r : List ℕ) → act k i r ≢ other → wideKind k ≡ false
-narrow (LdAbs z) i r a = refl
-narrow (LdInd z) i r a = refl
-narrow LdDwImm i r a = absurd (a refl)
-narrow (LdReg z) i r a = refl
-narrow (StImm z) i r a = refl
-narrow (StReg z) i r a = refl
-narrow (Alu o w s) i r a = refl
-narrow (Shift o w s) i r a = refl
-narrow (Neg w) i r a = refl
-narrow (MulDivMod o w s) i r a = refl
-narrow (Mov w s) i r a = refl
-narrow Le i r a = refl
-narrow Be i r a = refl
-narrow Ja i r a = refl
-narrow (Jump c w s) i r a = refl
-narrow Call i r a = refl
-narrow Exit i r a = refl
+narrow k i r a = by (wideKind k) refl
+  where
+    by : (w : Bool) → wideKind k ≡ w → w ≡ false
+    by true e = absurd (a (ap (λ (k : Kind). act k i r) (wide-load k e)))
+    by false e = refl
 
 runs : (compact : Bool) (k : Kind) (slot : ℕ) (i : Insn) (value : ℕ) (r : List ℕ)
     → Runs (mayBeEmpty (act k i r)) (slotCode (standardWith compact) k slot i value)
@@ -79,12 +86,7 @@ runs c Call slot i value r = tt
 runs c Exit slot i value r = tt
 
 pub prologue-some : (f : Flags) → 0 < size (prologue f)
-prologue-some f = rw (prologue-size f) (by (f .use_mbuff) (f .update_data_ptr))
-  where
-    by : (a b : Bool) → 0 < pick a (pick b 49 31) 34
-    by true true = omega arith
-    by true false = omega arith
-    by false b = omega arith
+prologue-some f = omega (arith, prologue-parts f)
 
 -- THE PAGE: prologue, blocks, epilogue, well formed and short.
 module _ (f : Flags) (bs : List Block) (wf : WfCode (whole f bs)) (short : size (whole f bs) < 2 ^ 31)
