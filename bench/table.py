@@ -1,7 +1,7 @@
 #!/usr/bin/env python3
 """Prints the bench's tables, in Markdown, from its rows, icount.c's counts and, where there are some, its times; then a summary.
 
-    bench/table.py ROWS COUNTS HASHLESS-COUNTS MODES-ROWS MODES-COUNTS [TIMES]
+    bench/table.py ROWS COUNTS HASHLESS-COUNTS MODES-ROWS MODES-COUNTS MAPPED-ROWS MAPPED-COUNTS [TIMES]
 
 DPDK's columns stand where the counts have some of its JIT. The last line is `ratio R`: this library's instructions over the Rust's on the
 corpus.
@@ -24,6 +24,9 @@ TITLES = [
 RUST, OURS, DPDK, OURS_BESIDE_DPDK, OURS_IN_MODES = range(5)
 # Ours has a label for each mode, from OURS_IN_MODES: standard mode and compact constants, off and on.
 MODES = ["as rbpf", "compact", "standard", "both"]
+# With a map, on a text in which every map finds room, and on one that it fills.
+OURS_MAPPED = OURS_IN_MODES + len(MODES)
+OURS_MAPPED_TIGHTLY = OURS_MAPPED + 1
 
 
 # ---- what the files say ----------------------------------------------------------------------------------------------------------------
@@ -34,16 +37,16 @@ class Row(NamedTuple):
     name: str
     programs: int
     slots: int
-    times: list
+    besides: list
 
 
 def rows_of(name):
-    """label -> Row; the times are what else the line has."""
+    """label -> Row; besides, the line has times, or the length of the maps."""
     rows = {}
     with open(name) as lines:
         for line in lines:
-            label, table, row, programs, slots, *times = line.rstrip("\n").split("\t")
-            rows[int(label)] = Row(table, row, int(programs), int(slots), [float(time) for time in times])
+            label, table, row, programs, slots, *besides = line.rstrip("\n").split("\t")
+            rows[int(label)] = Row(table, row, int(programs), int(slots), [float(figure) for figure in besides])
     return rows
 
 
@@ -114,6 +117,7 @@ SUMMARY_ROWS = [
     "the corpus's accepted programs",
 ]
 FILTERS = "the real filters"
+MAPPED_ROWS = ["EXIT alone", "16 slots", "256 slots", "2048 slots", "2048 slots, page of 16384", "the corpus's accepted programs", FILTERS]
 MODE_ROWS = [*SUMMARY_ROWS, FILTERS, "MOV64_IMM", "DIV64_REG", "LE 16", "MOV32_REG", "MOD32_REG", "MUL64_IMM", "LD_DW_IMM (2 slots)"]
 
 
@@ -146,7 +150,7 @@ class Bench:
         row, count = self.rows[label], self.counts.instructions
         rust = [count[label + RUST], self.hashless.instructions[label + RUST]]
         dpdk = [self.counts.stretches[label + DPDK], count[label + DPDK], count[label + OURS_BESIDE_DPDK]]
-        times = self.times[label].times if self.times else [0, 0]
+        times = self.times[label].besides if self.times else [0, 0]
         return Figures(row.programs, row.slots, *rust, count[label + OURS], *dpdk, *times)
 
     def named(self, name):
@@ -202,18 +206,37 @@ class Bench:
         return ratio(corpus.ours, corpus.rust)
 
 
-def show_modes(rows, counts):
-    """Ours in every mode, on the programs that have the same verdict in all."""
+def added_up(rows, names, figures_of):
+    """name -> a row's figures, those of the real filters in one; figures_of gives what there is of a row beside its programs and slots."""
     figures = {}
     for label, row in rows.items():
         name = FILTERS if row.table == "filters" else row.name
-        if name in MODE_ROWS:
-            by_mode = {mode: counts.instructions[label + at] for at, mode in enumerate(MODES, OURS_IN_MODES)}
-            figures.setdefault(name, Counter()).update(programs=row.programs, slots=row.slots, **by_mode)
+        if name in names:
+            figures.setdefault(name, Counter()).update(programs=row.programs, slots=row.slots, **figures_of(label))
+    return figures
+
+
+def show_modes(rows, counts):
+    """Ours in every mode, on the programs that have the same verdict in all."""
+    figures = added_up(rows, MODE_ROWS, lambda label: {mode: counts.instructions[label + at] for at, mode in enumerate(MODES, OURS_IN_MODES)})
     view = Table("mode", "programs", "slots", *MODES, *[f"{mode}, a slot" for mode in MODES])
     for name, row in figures.items():
         a_slot = [f"{row[mode] / row['slots']:.2f}" for mode in MODES]
         view.add(name, *[row[column] for column in ("programs", "slots", *MODES)], *a_slot)
+    view.show()
+
+
+def show_mapped(rows, counts):
+    """Ours with a map, beside a plain translation of the same programs."""
+    columns = {"plain": OURS, "mapped": OURS_MAPPED, "tightly": OURS_MAPPED_TIGHTLY}
+
+    def figures_of(label):
+        return {"text": int(rows[label].besides[0]), **{name: counts.instructions[label + at] for name, at in columns.items()}}
+
+    view = Table("with a map", "programs", "slots", "text", *columns, "mapped / plain", "tightly / plain")
+    for name, row in added_up(rows, MAPPED_ROWS, figures_of).items():
+        ratios = [ratio(row[column], row["plain"]) for column in ("mapped", "tightly")]
+        view.add(name, *[row[column] for column in ("programs", "slots", "text", *columns)], *ratios)
     view.show()
 
 
@@ -222,7 +245,7 @@ def sums(figures):
 
 
 def main():
-    rows, counts, hashless, modes_rows, modes_counts, *times = sys.argv[1:]
+    rows, counts, hashless, modes_rows, modes_counts, mapped_rows, mapped_counts, *times = sys.argv[1:]
     bench = Bench(rows_of(rows), Counts(counts), Counts(hashless), rows_of(times[0]) if times else {})
     for table, title in TITLES:
         print(f"\n{title}:\n")
@@ -231,6 +254,8 @@ def main():
     bench.passes()
     print("\nOurs, in every mode (without programs that have another verdict in one of them):\n")
     show_modes(rows_of(modes_rows), Counts(modes_counts))
+    print("\nOurs, with a map of so many bytes (tightly: the text has room for no more):\n")
+    show_mapped(rows_of(mapped_rows), Counts(mapped_counts))
     print("\nSummary (on a page of 16384 bytes ours measures the program before it writes it):\n")
     bench.summary()
     print(f"\nratio {bench.corpus()}")

@@ -1,7 +1,8 @@
 /* Ndakoleem for C: turns an eBPF filter into the x86-64 page that decides which packets are kept.
  *
- * Link with libndakoleem.a, which `rt staticlib ndakoleem` writes to target/staticlib. The library is x86-64 code, allocates nothing, keeps
- * nothing between calls, calls nothing of the operating system, and can be called by several threads at once, each with its own buffers.
+ * Link with libndakoleem.a, which `rt staticlib ndakoleem` writes to target/staticlib; a caller of ndakoleem_translate_mapped_1 or
+ * ndakoleem_translate_mapped_into links libndakoleem_map.a too (`rt staticlib ndakoleem_map`). Each library is x86-64 code, allocates nothing,
+ * keeps nothing between calls, calls nothing of the operating system, and can be called by several threads at once, each with its own buffers.
  *
  *     static struct ndakoleem_memory memory;
  *     struct ndakoleem_buffers lent = ndakoleem_lend(&memory);
@@ -23,8 +24,8 @@ extern "C" {
 #endif
 
 /* Limits, and sizes that are enough. A program of n slots (its length in bytes divided by 8, rounded down) takes at most
- * NDAKOLEEM_SLOT_CODE_MAX * n + NDAKOLEEM_FRAME_CODE_MAX bytes of code, n + 1 locations and n + 1 jumps, so smaller buffers do for smaller
- * programs. rust/test holds these numbers to the library's. */
+ * NDAKOLEEM_SLOT_CODE_MAX * n + NDAKOLEEM_FRAME_CODE_MAX bytes of code, n + 1 locations and n + 1 jumps, and its map n + 2 lines, so smaller
+ * buffers do for smaller programs. rust/test holds these numbers to the library's. */
 enum {
     NDAKOLEEM_SLOTS_MAX = 2048,      /* slots of a program */
     NDAKOLEEM_PROGRAM_MAX = 8 * NDAKOLEEM_SLOTS_MAX, /* bytes */
@@ -37,6 +38,8 @@ enum {
     /* bytes: that, rounded up to a multiple of NDAKOLEEM_CODE_MIN */
     NDAKOLEEM_CODE_ENOUGH = (NDAKOLEEM_CODE_LONGEST + NDAKOLEEM_CODE_MIN - 1) / NDAKOLEEM_CODE_MIN * NDAKOLEEM_CODE_MIN,
     NDAKOLEEM_TABLE_ENOUGH = NDAKOLEEM_SLOTS_MAX + 1, /* entries: as many as the longest program needs */
+    NDAKOLEEM_MAP_LINE_MAX = 30,     /* bytes of a line of a map, its end among them */
+    NDAKOLEEM_MAP_ENOUGH = NDAKOLEEM_MAP_LINE_MAX * (NDAKOLEEM_SLOTS_MAX + 2), /* bytes: every program's map finds room */
     NDAKOLEEM_HELPERS_MAX = 256,     /* helpers */
     NDAKOLEEM_EXIT_TARGET = 1000001, /* in the table of targets: a jump to the exit */
     NDAKOLEEM_SENTENCE_ENOUGH = 200  /* bytes: every sentence of ndakoleem_sentence finds room */
@@ -59,7 +62,9 @@ enum ndakoleem_number {
     NDAKOLEEM_UNKNOWN_HELPER = 11,   /* a call of a helper whose id is not in the list                                            [that slot] */
     NDAKOLEEM_BAD_CALL = 12,         /* a call that is neither to a helper nor local (src 2 to 10)                                [that slot] */
     NDAKOLEEM_NO_ROOM = 13,          /* the code runs past the code buffer                  [the slot whose code does, or n for the epilogue] */
-    NDAKOLEEM_BAD_TARGET = 14        /* a jump or a local call goes to no slot of the program                    [the first such jump's slot] */
+    NDAKOLEEM_BAD_TARGET = 14,       /* a jump or a local call goes to no slot of the program                    [the first such jump's slot] */
+    NDAKOLEEM_BASE_TOO_HIGH = 15,    /* with a map: the base and the code's length make more than 2^64 - 1                                [0] */
+    NDAKOLEEM_TEXT_TOO_SHORT = 16    /* with a map: it does not fit into the text buffer                                                  [0] */
 };
 
 /* What a jump is, in the table of kinds. */
@@ -76,6 +81,15 @@ struct ndakoleem_translation {
     size_t slot;
     size_t length;
     size_t jumps;
+};
+
+/* The same of a translation with a map. Accepted: text is how many bytes of the text buffer the map takes; refused: 0. */
+struct ndakoleem_mapped {
+    uint8_t number;
+    size_t slot;
+    size_t length;
+    size_t jumps;
+    size_t text;
 };
 
 /* Goes ahead of the name of a helper that is written in C: `static NDAKOLEEM_HELPER uint64_t name(uint64_t r1, ..)`.
@@ -117,6 +131,38 @@ struct ndakoleem_translation ndakoleem_translate_4(
     uint32_t *targets, size_t targets_length,
     uint32_t *kinds, size_t kinds_length,
     uint32_t *makers, size_t makers_length);
+
+/* Translates a program and makes the map of its page, by which perf names the slots. It stands in libndakoleem_map.a, of which a loader that
+ * wants no map links nothing. It takes what ndakoleem_translate_4 takes, leaves what that leaves, and besides:
+ *
+ *   base                 the address of the page's first byte when it runs; so memory is mapped for the page before it is translated
+ *   text                 accepted: its first `text` bytes become the map, which no zero byte ends
+ *
+ * A line of the map is `START SIZE NAME`: an address and a number of bytes, both in hexadecimal, and what stands there. That is the prologue,
+ * then each slot that has bytes, a wide load by its first slot, then the epilogue; every line but the first begins where the one before ends.
+ *
+ *     7f1234567000 22 prologue
+ *     7f1234567022 4 slot_0
+ *     7f1234567026 d slot_1
+ *
+ * perf looks for it in the file /tmp/perf-PID.map, PID being the process that runs the page, whose user has to own the file; the kernel's
+ * source has the format in tools/perf/Documentation/jit-interface.txt. Where a process has several pages, their maps stand one behind the other.
+ *
+ * NDAKOLEEM_BASE_TOO_HIGH comes behind every refusal of ndakoleem_translate_4, and NDAKOLEEM_TEXT_TOO_SHORT behind that. A refusal changes
+ * nothing at all, the text neither. */
+struct ndakoleem_mapped ndakoleem_translate_mapped_1(
+    const uint8_t *program, size_t program_length,
+    bool use_mbuff, bool update_data_ptr, bool standard, bool compact,
+    const uint32_t *ids, size_t ids_length,
+    const uint64_t *addresses, size_t addresses_length,
+    uint8_t *code, size_t code_length,
+    uint32_t *locations, size_t locations_length,
+    uint32_t *fields, size_t fields_length,
+    uint32_t *targets, size_t targets_length,
+    uint32_t *kinds, size_t kinds_length,
+    uint32_t *makers, size_t makers_length,
+    uint64_t base,
+    char *text, size_t text_length);
 
 /* A refusal in words, for an operator: "slot 7: a jump to slot 90, the program ends at 40 (refusal 14)". The program, and the answer's number and
  * slot, go in; the sentence goes to the start of `out`, cut where it does not fit and not ended by a zero, and its length is given back. */
@@ -179,6 +225,17 @@ static inline struct ndakoleem_buffers ndakoleem_lend(struct ndakoleem_memory *m
     return lent;
 }
 
+/* What is lent, with an entry that stands for the tables that are null. */
+static inline struct ndakoleem_buffers ndakoleem_without_null(const struct ndakoleem_buffers *lent, uint32_t *no_entry) {
+    struct ndakoleem_buffers given = *lent;
+    if (given.locations == NULL) given.locations = no_entry;
+    if (given.fields == NULL) given.fields = no_entry;
+    if (given.targets == NULL) given.targets = no_entry;
+    if (given.kinds == NULL) given.kinds = no_entry;
+    if (given.makers == NULL) given.makers = no_entry;
+    return given;
+}
+
 /* ndakoleem_translate_4, with the flags in one struct and the buffers in another. The helper lists and the tables may be null where their
  * lengths are 0: a caller who does not know of a table, and leaves it so, gets NDAKOLEEM_TABLE_TOO_SHORT. */
 static inline struct ndakoleem_translation ndakoleem_translate_into(
@@ -190,16 +247,45 @@ static inline struct ndakoleem_translation ndakoleem_translate_into(
     static const uint32_t no_id = 0;
     static const uint64_t no_address = 0;
     uint32_t no_entry = 0;
+    struct ndakoleem_buffers given = ndakoleem_without_null(lent, &no_entry);
     return ndakoleem_translate_4(
         program, program_length, flags.use_mbuff, flags.update_data_ptr, flags.standard, flags.compact,
         ids == NULL ? &no_id : ids, ids_length,
         addresses == NULL ? &no_address : addresses, addresses_length,
-        lent->code, lent->code_length,
-        lent->locations == NULL ? &no_entry : lent->locations, lent->locations_length,
-        lent->fields == NULL ? &no_entry : lent->fields, lent->fields_length,
-        lent->targets == NULL ? &no_entry : lent->targets, lent->targets_length,
-        lent->kinds == NULL ? &no_entry : lent->kinds, lent->kinds_length,
-        lent->makers == NULL ? &no_entry : lent->makers, lent->makers_length);
+        given.code, given.code_length,
+        given.locations, given.locations_length,
+        given.fields, given.fields_length,
+        given.targets, given.targets_length,
+        given.kinds, given.kinds_length,
+        given.makers, given.makers_length);
+}
+
+/* ndakoleem_translate_mapped_1 in the same way; the text may be null too where its length is 0. */
+static inline struct ndakoleem_mapped ndakoleem_translate_mapped_into(
+    const uint8_t *program, size_t program_length,
+    struct ndakoleem_flags flags,
+    const uint32_t *ids, size_t ids_length,
+    const uint64_t *addresses, size_t addresses_length,
+    const struct ndakoleem_buffers *lent,
+    uint64_t base,
+    char *text, size_t text_length) {
+    static const uint32_t no_id = 0;
+    static const uint64_t no_address = 0;
+    uint32_t no_entry = 0;
+    char no_text = 0;
+    struct ndakoleem_buffers given = ndakoleem_without_null(lent, &no_entry);
+    return ndakoleem_translate_mapped_1(
+        program, program_length, flags.use_mbuff, flags.update_data_ptr, flags.standard, flags.compact,
+        ids == NULL ? &no_id : ids, ids_length,
+        addresses == NULL ? &no_address : addresses, addresses_length,
+        given.code, given.code_length,
+        given.locations, given.locations_length,
+        given.fields, given.fields_length,
+        given.targets, given.targets_length,
+        given.kinds, given.kinds_length,
+        given.makers, given.makers_length,
+        base,
+        text == NULL ? &no_text : text, text_length);
 }
 
 #ifdef __cplusplus

@@ -8,14 +8,15 @@
 #   kit               prints the folder of the Rattle kit
 #   x86_gcc, x86_objdump, rust_x86, "${emulator[@]}"
 #                     compilers for x86-64, its disassembler, and what goes ahead of a program for it: nothing on an x86-64 machine
-#   build_library     the static library, $library, proved and built anew where a crate has changed since
-#   build_wrapper     the Rust crate of rust/ over it
+#   build_library     the static libraries, $library and, for who wants a map, $map_library: proved and built anew where a crate has changed since
+#   build_wrapper     the Rust crate of rust/ over both
 #   up_to_date        whether a file is newer than what it is made of
 #   in_python         goes on in Python, which finds the tools' names in its environment
 
 root=$(cd "$(dirname "${BASH_SOURCE[0]}")/.." && pwd -P)
 machine=$(uname -m)
 library=$root/target/staticlib/libndakoleem.a
+map_library=$root/target/staticlib/libndakoleem_map.a
 rust_packages=(rustc-web gcc libc6-dev)
 x86_gcc=gcc
 x86_objdump=objdump
@@ -44,6 +45,7 @@ packages() {
     x86_64-linux-gnu-objdump) echo binutils-x86-64-linux-gnu ;;
     qemu-x86_64) echo qemu-user ;;
     cargo) echo cargo-web ;;
+    perf) echo linux-perf ;;
     xz) echo xz-utils ;;
     rust_x86) echo "${rust_packages[@]}" ;;
     *) echo "$1" ;;
@@ -115,14 +117,16 @@ up_to_date() {
 }
 
 build_library() {
-    local log=$root/target/staticlib.log
-    if up_to_date "$library" "$root/crates.txt" "$root/crates"; then return; fi
+    local name log=$root/target/staticlib.log made_of=("$root/crates.txt" "$root/crates")
+    if up_to_date "$library" "${made_of[@]}" && up_to_date "$map_library" "${made_of[@]}"; then return; fi
     need rt
-    echo "proving and building the library (the first time: some minutes)" >&2
+    echo "proving and building the libraries (the first time: some minutes)" >&2
     mkdir -p "$root/target"
-    (cd "$root" && rt staticlib ndakoleem) >"$log" 2>&1 || { cat "$log" >&2; fail "the library is not built"; }
-    # The archive is not written anew where nothing that it is made of has changed.
-    touch "$library"
+    for name in ndakoleem ndakoleem_map; do
+        (cd "$root" && rt staticlib "$name") >"$log" 2>&1 || { cat "$log" >&2; fail "the library $name is not built"; }
+    done
+    # An archive is not written anew where nothing that it is made of has changed.
+    touch "$library" "$map_library"
 }
 
 # Debian's rustc, and not another that stands before it in PATH: the same for everyone, and on Arm the one that has x86-64's library.
@@ -138,7 +142,7 @@ rust_x86() {
 
 # build_wrapper FOLDER: the crate, as FOLDER/libndakoleem.rlib.
 build_wrapper() {
-    if up_to_date "$1/libndakoleem.rlib" "$library" "$root/rust/src"; then return; fi
+    if up_to_date "$1/libndakoleem.rlib" "$library" "$map_library" "$root/rust/src"; then return; fi
     rust_x86 --crate-name ndakoleem --crate-type rlib --out-dir "$1" "$root/rust/src/lib.rs"
 }
 

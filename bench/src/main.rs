@@ -7,12 +7,13 @@
 //!
 //!     bench count CORPUS [FILTER ..]    mark each translation for icount.c
 //!     bench modes CORPUS [FILTER ..]    mark ours, in every mode
+//!     bench mapped CORPUS [FILTER ..]   mark ours, without a map and with it
 //!     bench time CORPUS [FILTER ..]     time each translation
 //!
 //! Each prints a line for each row: its label, its table, its name, how many
-//! programs and slots it has, and, of `time`, nanoseconds of the Rust and ours.
-//! DPDK's JIT is counted, and not timed. `modes` leaves out a program that has
-//! another verdict in one of them.
+//! programs and slots it has, and, of `time`, nanoseconds of the Rust and ours,
+//! of `mapped` the maps' length. DPDK's JIT is counted, and not timed. `modes`
+//! leaves out a program that has another verdict in one of them.
 
 #[cfg_attr(not(dpdk), path = "no_dpdk.rs")]
 mod dpdk;
@@ -55,9 +56,10 @@ fn main() -> std::process::ExitCode {
     let (measure, files): (Measure, _) = match words[..] {
         ["count", ..] if words.len() > 1 => (measure::count, &words[1..]),
         ["modes", ..] if words.len() > 1 => (measure::count_in_every_mode, &words[1..]),
+        ["mapped", ..] if words.len() > 1 => (measure::count_mapped, &words[1..]),
         ["time", ..] if words.len() > 1 => (measure::time, &words[1..]),
         _ => {
-            eprintln!("usage: bench count|modes|time CORPUS [FILTER ..]");
+            eprintln!("usage: bench count|modes|mapped|time CORPUS [FILTER ..]");
             return 2.into();
         }
     };

@@ -6,7 +6,8 @@
 //! call of `ndakoleem_translate_4`. Neither allocates the page or clears it, and
 //! the Rust's map of helpers is made beforehand. DPDK's JIT is counted beside
 //! them on the programs that it takes; it maps a page of its own. The Rust has
-//! neither standard mode nor compact constants: with them ours alone is counted.
+//! neither standard mode nor compact constants nor maps: with them ours alone is
+//! counted.
 
 use std::hint::black_box;
 use std::time::{Duration, Instant};
@@ -15,7 +16,7 @@ use crate::observe::debug_number;
 use crate::programs::Row;
 use crate::stream::Case;
 use crate::{dpdk, ebpf, jit, HashMap};
-use ndakoleem::raw;
+use ndakoleem::{raw, MAP_ENOUGH};
 
 const PAGE: usize = ndakoleem::CODE_MAX;
 const ENTRIES: usize = 2 * ndakoleem::SLOTS_MAX;
@@ -27,9 +28,13 @@ const OURS: u64 = 1;
 const DPDK: u64 = 2;
 const OURS_BESIDE_DPDK: u64 = 3;
 const OURS_IN_MODES: u64 = 4;
-const LABELS: u64 = OURS_IN_MODES + MODES.len() as u64;
+const OURS_MAPPED: u64 = OURS_IN_MODES + MODES.len() as u64;
+const OURS_MAPPED_TIGHTLY: u64 = OURS_MAPPED + 1;
+const LABELS: u64 = OURS_MAPPED_TIGHTLY + 1;
 /// Standard mode and compact constants, off and on, in the order of the labels.
 const MODES: [(bool, bool); 4] = [(false, false), (false, true), (true, false), (true, true)];
+/// Where pages with a map stand: mmap puts them at addresses of so many digits.
+const BASE: u64 = 0x7f12_3456_7000;
 /// A timed row goes on for at least this long.
 const AT_LEAST: Duration = Duration::from_millis(200);
 
@@ -42,13 +47,14 @@ struct Lent {
     rust_page: Box<Page>,
     our_page: Box<Page>,
     tables: [Vec<u32>; TABLES],
+    text: Vec<u8>,
 }
 
 impl Lent {
     fn new() -> Lent {
         let page = || Box::new(Page([0; PAGE]));
         let tables = [ENTRIES; TABLES].map(|length| vec![0; length]);
-        Lent { rust_page: page(), our_page: page(), tables }
+        Lent { rust_page: page(), our_page: page(), tables, text: vec![0; MAP_ENOUGH] }
     }
 }
 
@@ -79,6 +85,42 @@ fn entries_of(case: &Case) -> [usize; TABLES] {
     [locations, fields, targets, kinds, makers].map(|length| (length as usize).min(ENTRIES))
 }
 
+/// One call of the library: with what a case lends it, and what goes behind.
+macro_rules! called {
+    ($function:ident, $case:ident, $page:ident, $tables:ident, $entries:ident
+        $(, $behind:expr)*) => {{
+        let [locations, fields, targets, kinds, makers] = $tables;
+        let [l, f, t, k, m] = *$entries;
+        unsafe {
+            raw::$function(
+                $case.program.as_ptr(),
+                $case.program.len(),
+                $case.use_mbuff,
+                $case.update_data_ptr,
+                $case.standard,
+                $case.compact,
+                $case.helper_ids.as_ptr(),
+                $case.helper_ids.len(),
+                $case.helper_addresses.as_ptr(),
+                $case.helper_addresses.len(),
+                $page.as_mut_ptr(),
+                $page.len(),
+                locations.as_mut_ptr(),
+                l,
+                fields.as_mut_ptr(),
+                f,
+                targets.as_mut_ptr(),
+                t,
+                kinds.as_mut_ptr(),
+                k,
+                makers.as_mut_ptr(),
+                m,
+                $($behind),*
+            )
+        }
+    }};
+}
+
 #[inline(never)]
 fn run_ours(
     case: &Case,
@@ -86,34 +128,19 @@ fn run_ours(
     tables: &mut [Vec<u32>; TABLES],
     entries: &[usize; TABLES],
 ) -> raw::Translation {
-    let [locations, fields, targets, kinds, makers] = tables;
-    let [l, f, t, k, m] = *entries;
-    unsafe {
-        raw::ndakoleem_translate_4(
-            case.program.as_ptr(),
-            case.program.len(),
-            case.use_mbuff,
-            case.update_data_ptr,
-            case.standard,
-            case.compact,
-            case.helper_ids.as_ptr(),
-            case.helper_ids.len(),
-            case.helper_addresses.as_ptr(),
-            case.helper_addresses.len(),
-            page.as_mut_ptr(),
-            page.len(),
-            locations.as_mut_ptr(),
-            l,
-            fields.as_mut_ptr(),
-            f,
-            targets.as_mut_ptr(),
-            t,
-            kinds.as_mut_ptr(),
-            k,
-            makers.as_mut_ptr(),
-            m,
-        )
-    }
+    called!(ndakoleem_translate_4, case, page, tables, entries)
+}
+
+#[inline(never)]
+fn run_mapped(
+    case: &Case,
+    page: &mut [u8],
+    tables: &mut [Vec<u32>; TABLES],
+    entries: &[usize; TABLES],
+    text: &mut [u8],
+) -> raw::Mapped {
+    let (at, room) = (text.as_mut_ptr(), text.len());
+    called!(ndakoleem_translate_mapped_1, case, page, tables, entries, BASE, at, room)
 }
 
 /// System calls that no kernel has: `icount.c` sees them.
@@ -195,6 +222,31 @@ fn counted_in_every_mode(label: u64, case: &Case, length: usize, lent: &mut Lent
         marked(label + mode, || _ = black_box(translate(case)));
     }
     true
+}
+
+/// Ours without a map and with it, on a text in which every map finds room and
+/// on one that it fills. Gives the map's length.
+fn counted_mapped(
+    label: u64,
+    case: &Case,
+    length: usize,
+    lent: &mut Lent,
+) -> Result<usize, String> {
+    let Lent { our_page, tables, text, .. } = lent;
+    let (page, entries) = (&mut our_page.0[..length], entries_of(case));
+    let mapped = run_mapped(case, page, tables, &entries, text);
+    if mapped.number != 0 {
+        return Err(format!("with a map the library gives {mapped:?}"));
+    }
+    marked(label + OURS, || _ = black_box(run_ours(case, page, tables, &entries)));
+    marked(label + OURS_MAPPED, || {
+        _ = black_box(run_mapped(case, page, tables, &entries, text));
+    });
+    let filled = &mut text[..mapped.text];
+    marked(label + OURS_MAPPED_TIGHTLY, || {
+        _ = black_box(run_mapped(case, page, tables, &entries, filled));
+    });
+    Ok(mapped.text)
 }
 
 /// Nanoseconds of one translation, the shortest of five rounds.
@@ -281,6 +333,21 @@ pub fn count_in_every_mode(rows: &[Row]) -> Result<(), String> {
         let mut cases = ready(row, &mut lent)?;
         cases.retain(|(case, length)| counted_in_every_mode(label, case, *length, &mut lent));
         println!("{}", line(label, row, &cases));
+    }
+    Ok(())
+}
+
+/// What a row's line has besides is the length of its maps.
+pub fn count_mapped(rows: &[Row]) -> Result<(), String> {
+    let mut lent = Lent::new();
+    marked(0, || ());
+    for (label, row) in labelled(rows).filter(|(_, row)| row.table != "refused") {
+        let cases = ready(row, &mut lent)?;
+        let mut text = 0;
+        for (case, length) in &cases {
+            text += counted_mapped(label, case, *length, &mut lent)?;
+        }
+        println!("{}\t{text}", line(label, row, &cases));
     }
     Ok(())
 }

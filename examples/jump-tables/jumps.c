@@ -1,5 +1,5 @@
-/* What the jump tables say of a filter with a jump of every kind, and that ndakoleem.h lends each table in its place. Prints one line for each
- * jump, without compact constants and with them, and `N passed, 0 failed`. */
+/* What the jump tables say of a filter with a jump of every kind, and that ndakoleem.h lends each table in its place, and none where there is
+ * none. Prints one line for each jump, without compact constants and with them, and `N passed, 0 failed`. */
 #include <stdio.h>
 #include <string.h>
 
@@ -89,6 +89,15 @@ static void refuse_three(struct ndakoleem_memory *memory) {
     say("three tables: refused", done.number == NDAKOLEEM_TABLE_TOO_SHORT && are_marked(memory, 0, 0));
 }
 
+/* A caller who asks for a map, and has no text for it. */
+static void refuse_map(struct ndakoleem_memory *memory) {
+    static struct ndakoleem_flags flags;
+    struct ndakoleem_buffers five = ndakoleem_lend(memory);
+    struct ndakoleem_mapped done =
+        ndakoleem_translate_mapped_into(filter, sizeof filter, flags, NULL, 0, NULL, 0, &five, 0, NULL, 0);
+    say("a map without a text: refused", done.number == NDAKOLEEM_TEXT_TOO_SHORT && are_marked(memory, 0, 0));
+}
+
 /* Gives the code's length. */
 static size_t accept_five(struct ndakoleem_memory *memory, bool compact) {
     struct ndakoleem_buffers five = ndakoleem_lend(memory);
@@ -109,6 +118,7 @@ int main(void) {
     static struct ndakoleem_memory memory;
     memset(&memory, mark & 0xff, sizeof memory);
     refuse_three(&memory);
+    refuse_map(&memory);
     size_t longer = accept_five(&memory, false);
     memset(&memory, mark & 0xff, sizeof memory);
     say("compact constants: shorter code", accept_five(&memory, true) < longer);

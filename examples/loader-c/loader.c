@@ -1,11 +1,14 @@
 /* A loader in C: reads a filter, has it translated, maps its page, and runs it over the packets of a pcap.
  *
- *   loader [--raw] [--standard] [--compact] FILTER PCAP
+ *   loader [--raw] [--standard] [--compact] [--perf-map] [--times N] FILTER PCAP
  *
  * FILTER is bytecode, eight bytes a slot. r1 of the filter is a struct packet, the addresses of the packet's first byte and of the byte behind
  * its last; with --raw it is the packet itself, with zeros behind it up to 64 bytes at least. --standard has it translated in standard mode,
  * --compact with compact constants. What the filter gives is the verdict: 0 turns the packet down, anything else keeps it. A filter is run as
- * it is: one that reads outside the packet or never ends takes the loader with it. */
+ * it is: one that reads outside the packet or never ends takes the loader with it.
+ *
+ * --perf-map writes the page's map to /tmp/perf-PID.map ahead of the first packet, so that perf names the filter's slots; it stays there, for
+ * perf reads it afterwards. --times N runs the filter over all packets N times, and prints the verdicts of the first: so a profiler sees it. */
 #include <stdbool.h>
 #include <stdio.h>
 #include <stdlib.h>
@@ -65,14 +68,34 @@ static NDAKOLEEM_HELPER uint64_t mix(uint64_t a, uint64_t b, uint64_t c, uint64_
 static const uint32_t helper_ids[] = {1, 2};
 enum { HELPERS = sizeof helper_ids / sizeof helper_ids[0] };
 
+/* Where perf looks for it. What is there already may belong to somebody else, or be a link: it is not written to. */
+static void write_map(const char *map, size_t length) {
+    char name[64];
+    snprintf(name, sizeof name, "/tmp/perf-%ld.map", (long)getpid());
+    remove(name);
+    FILE *file = fopen(name, "wx");
+    bool written = file != NULL && fwrite(map, 1, length, file) == length;
+    if (file != NULL && fclose(file) != 0) written = false;
+    if (!written) fail(name, "cannot be written");
+}
+
+/* Room for any page; made before the translation, since a map says where the page stands. */
+static void *mapping(const char *name) {
+    void *page = mmap(NULL, NDAKOLEEM_CODE_ENOUGH, PROT_READ | PROT_WRITE, MAP_PRIVATE | MAP_ANONYMOUS, -1, 0);
+    if (page == MAP_FAILED) fail(name, "its page cannot be mapped");
+    return page;
+}
+
 /* The filter's code in a mapping of its own, executable and no longer writable; a refusal ends the program with its sentence. */
-static page_function load(const char *name, struct ndakoleem_flags flags) {
+static page_function load(const char *name, struct ndakoleem_flags flags, bool perf_map) {
     static struct ndakoleem_memory memory;
+    static char map[NDAKOLEEM_MAP_ENOUGH];
     struct ndakoleem_buffers lent = ndakoleem_lend(&memory);
     const uint64_t helpers[HELPERS] = {(uint64_t)is_subscribed, (uint64_t)mix};
     struct bytes program = read_file(name);
-    struct ndakoleem_translation done =
-        ndakoleem_translate_into(program.at, program.length, flags, helper_ids, HELPERS, helpers, HELPERS, &lent);
+    void *page = mapping(name);
+    struct ndakoleem_mapped done = ndakoleem_translate_mapped_into(
+        program.at, program.length, flags, helper_ids, HELPERS, helpers, HELPERS, &lent, (uint64_t)page, map, sizeof map);
     if (done.number != NDAKOLEEM_ACCEPTED) {
         char sentence[NDAKOLEEM_SENTENCE_ENOUGH];
         size_t length = ndakoleem_sentence(program.at, program.length, done.number, done.slot, sentence, sizeof sentence);
@@ -81,10 +104,9 @@ static page_function load(const char *name, struct ndakoleem_flags flags) {
     }
     printf("%s: %zu slots, %zu bytes of code\n", name, program.length / 8, done.length);
     free(program.at);
-    void *page = mmap(NULL, done.length, PROT_READ | PROT_WRITE, MAP_PRIVATE | MAP_ANONYMOUS, -1, 0);
-    if (page == MAP_FAILED) fail(name, "its page cannot be mapped");
     memcpy(page, memory.code, done.length);
-    if (mprotect(page, done.length, PROT_READ | PROT_EXEC) != 0) fail(name, "its page cannot be made executable");
+    if (mprotect(page, NDAKOLEEM_CODE_ENOUGH, PROT_READ | PROT_EXEC) != 0) fail(name, "its page cannot be made executable");
+    if (perf_map) write_map(map, done.text);
     return (page_function)page;
 }
 
@@ -101,14 +123,13 @@ static uint32_t number_at(const uint8_t *at, bool swapped) {
     return swapped ? __builtin_bswap32(low_first) : low_first;
 }
 
-/* A pcap's packets are numbered from 1, as tcpdump and tshark number them. */
-static void run(page_function page, bool raw, const char *name) {
-    struct bytes pcap = read_file(name);
+/* Once over a pcap's packets, which are numbered from 1, as tcpdump and tshark number them. */
+static void run_once(page_function page, bool raw, const char *name, struct bytes pcap, bool shown) {
     uint32_t magic = pcap.length < FILE_HEADER ? 0 : number_at(pcap.at, false);
     bool swapped = magic == 0xd4c3b2a1 || magic == 0x4d3cb2a1;
     if (!swapped && magic != 0xa1b2c3d4 && magic != 0xa1b23c4d) fail(name, "is no pcap");
     size_t at = FILE_HEADER, packets = 0, kept = 0, bytes = 0;
-    printf("packet  length  verdict\n");
+    if (shown) printf("packet  length  verdict\n");
     while (pcap.length - at >= PACKET_HEADER) {
         size_t length = number_at(pcap.at + at + 8, swapped);
         at += PACKET_HEADER;
@@ -118,27 +139,41 @@ static void run(page_function page, bool raw, const char *name) {
         packets += 1;
         kept += keep;
         bytes += keep ? length : 0;
-        printf("%6zu  %6zu  %s\n", packets, length, keep ? "kept" : "-");
+        if (shown) printf("%6zu  %6zu  %s\n", packets, length, keep ? "kept" : "-");
     }
     if (at != pcap.length) fail(name, "ends inside a packet's header");
-    printf("kept %zu of %zu packets, %zu bytes\n", kept, packets, bytes);
+    if (shown) printf("kept %zu of %zu packets, %zu bytes\n", kept, packets, bytes);
+}
+
+static void run(page_function page, bool raw, const char *name, size_t times) {
+    struct bytes pcap = read_file(name);
+    for (size_t time = 0; time < times; time += 1) run_once(page, raw, name, pcap, time == 0);
     free(pcap.at);
 }
 
+/* How often: a number from 1 up, of nine digits at the most. 0 for any other word. */
+static size_t times_of(const char *word) {
+    size_t digits = strspn(word, "0123456789");
+    return digits > 9 || word[digits] != '\0' ? 0 : strtoul(word, NULL, 10);
+}
+
 int main(int count, char **words) {
-    bool raw = false, standard = false, compact = false;
+    struct ndakoleem_flags flags = {.use_mbuff = true};
+    bool perf_map = false;
+    size_t times = 1;
     int at = 1;
     for (; at < count; at += 1) {
-        if (strcmp(words[at], "--raw") == 0) raw = true;
-        else if (strcmp(words[at], "--standard") == 0) standard = true;
-        else if (strcmp(words[at], "--compact") == 0) compact = true;
+        if (strcmp(words[at], "--raw") == 0) flags.use_mbuff = false;
+        else if (strcmp(words[at], "--standard") == 0) flags.standard = true;
+        else if (strcmp(words[at], "--compact") == 0) flags.compact = true;
+        else if (strcmp(words[at], "--perf-map") == 0) perf_map = true;
+        else if (strcmp(words[at], "--times") == 0 && at + 1 < count && (times = times_of(words[at + 1])) > 0) at += 1;
         else break;
     }
-    if (count - at != 2) {
-        fprintf(stderr, "usage: loader [--raw] [--standard] [--compact] FILTER PCAP\n");
+    if (count - at != 2 || times == 0) {
+        fprintf(stderr, "usage: loader [--raw] [--standard] [--compact] [--perf-map] [--times N] FILTER PCAP\n");
         return 2;
     }
-    struct ndakoleem_flags flags = {.use_mbuff = !raw, .standard = standard, .compact = compact};
-    run(load(words[at], flags), raw, words[at + 1]);
+    run(load(words[at], flags, perf_map), !flags.use_mbuff, words[at + 1], times);
     return 0;
 }

@@ -1,7 +1,7 @@
 //! A loader in Rust: reads a filter, has it translated, maps its page, and
 //! runs it over the packets of a pcap.
 //!
-//!     loader [--raw] [--standard] [--compact] FILTER PCAP
+//!     loader [--raw] [--standard] [--compact] [--perf-map] [--times N] FILTER PCAP
 //!
 //! FILTER is bytecode, eight bytes a slot. r1 of the filter is a `Packet`, the
 //! addresses of the packet's first byte and of the byte behind its last; with
@@ -10,12 +10,19 @@
 //! constants. What the filter gives is the verdict: 0 turns the packet down,
 //! anything else keeps it. A filter is run as it is: one that reads outside the
 //! packet or never ends takes the loader with it.
+//!
+//! --perf-map writes the page's map to /tmp/perf-PID.map ahead of the first
+//! packet, so that perf names the filter's slots; it stays there, for perf reads
+//! it afterwards. --times N runs the filter over all packets N times, and prints
+//! the verdicts of the first: so a profiler sees it.
 
 use std::error::Error;
-use std::process::ExitCode;
+use std::fs::{self, File};
+use std::io::Write;
+use std::process::{self, ExitCode};
 use std::ptr;
 
-use ndakoleem::{Flags, Helpers, Page};
+use ndakoleem::{Flags, Helpers, Page, CODE_ENOUGH, MAP_ENOUGH};
 
 type Outcome<T> = Result<T, Box<dyn Error>>;
 type PageFunction =
@@ -66,31 +73,51 @@ extern "sysv64" fn mix(a: u64, b: u64, c: u64, d: u64, e: u64) -> u64 {
 ndakoleem::helper_entry!(is_subscribed_entry, is_subscribed);
 ndakoleem::helper_entry!(mix_entry, mix);
 
-/// The code in a mapping of its own, executable and no longer writable.
-fn mapped(code: &[u8]) -> Outcome<PageFunction> {
+/// Where perf looks for it. What is there already may belong to somebody else,
+/// or be a link: it is not written to.
+fn write_map(map: &[u8]) -> Outcome<()> {
+    let name = format!("/tmp/perf-{}.map", process::id());
+    _ = fs::remove_file(&name);
+    let written = File::create_new(&name).and_then(|mut file| file.write_all(map));
+    Ok(written.map_err(|_| format!("{name}: cannot be written"))?)
+}
+
+/// Room for any page; made before the translation, since a map says where the
+/// page stands.
+fn mapping(name: &str) -> Outcome<*mut u8> {
+    let anywhere = MAP_PRIVATE | MAP_ANONYMOUS;
+    let at = unsafe { mmap(ptr::null_mut(), CODE_ENOUGH, PROT_READ | PROT_WRITE, anywhere, -1, 0) };
+    if at as isize == -1 {
+        return Err(format!("{name}: its page cannot be mapped").into());
+    }
+    Ok(at)
+}
+
+/// The code in its mapping, executable and no longer writable.
+fn loaded(name: &str, code: &[u8], at: *mut u8) -> Outcome<PageFunction> {
     unsafe {
-        let anywhere = MAP_PRIVATE | MAP_ANONYMOUS;
-        let at = mmap(ptr::null_mut(), code.len(), PROT_READ | PROT_WRITE, anywhere, -1, 0);
-        if at as isize == -1 {
-            return Err("the page cannot be mapped".into());
-        }
         ptr::copy_nonoverlapping(code.as_ptr(), at, code.len());
-        if mprotect(at, code.len(), PROT_READ | PROT_EXEC) != 0 {
-            return Err("the page cannot be made executable".into());
+        if mprotect(at, CODE_ENOUGH, PROT_READ | PROT_EXEC) != 0 {
+            return Err(format!("{name}: its page cannot be made executable").into());
         }
         Ok(std::mem::transmute::<*mut u8, PageFunction>(at))
     }
 }
 
-fn load(name: &str, flags: Flags) -> Outcome<PageFunction> {
-    let program = read(name)?;
-    let mut page = Page::new();
+fn load(name: &str, flags: Flags, perf_map: bool) -> Outcome<PageFunction> {
+    let (mut page, mut text) = (Page::new(), [0; MAP_ENOUGH]);
     let addresses = [is_subscribed_entry as *const () as u64, mix_entry as *const () as u64];
     let helpers = Helpers { ids: &[1, 2], addresses: &addresses };
-    let code = page.translate(&program, flags, helpers);
-    let code = code.map_err(|refusal| format!("{name} is refused: {refusal}"))?;
-    println!("{name}: {} slots, {} bytes of code", program.len() / 8, code.len());
-    mapped(code)
+    let program = read(name)?;
+    let at = mapping(name)?;
+    let map = page.translate_mapped(&program, flags, helpers, at as u64, &mut text);
+    let map = map.map_err(|refusal| format!("{name} is refused: {refusal}"))?;
+    println!("{name}: {} slots, {} bytes of code", program.len() / 8, page.code().len());
+    let function = loaded(name, page.code(), at)?;
+    if perf_map {
+        write_map(map)?;
+    }
+    Ok(function)
 }
 
 fn keeps(page: PageFunction, raw: bool, data: &[u8]) -> bool {
@@ -134,40 +161,77 @@ fn packets(pcap: &[u8]) -> Outcome<Vec<&[u8]>> {
     Ok(found)
 }
 
-/// A pcap's packets are numbered from 1, as tcpdump and tshark number them.
-fn run(page: PageFunction, raw: bool, name: &str) -> Outcome<()> {
-    let pcap = read(name)?;
-    let packets = packets(&pcap).map_err(|why| format!("{name}: {why}"))?;
+/// Once over a pcap's packets, which are numbered from 1, as tcpdump and tshark
+/// number them.
+fn run_once(page: PageFunction, raw: bool, packets: &[&[u8]], shown: bool) {
     let (mut kept, mut bytes) = (0, 0);
-    println!("packet  length  verdict");
+    if shown {
+        println!("packet  length  verdict");
+    }
     for (at, packet) in packets.iter().enumerate() {
         let keep = keeps(page, raw, packet);
         kept += keep as usize;
         bytes += if keep { packet.len() } else { 0 };
-        println!("{:6}  {:6}  {}", at + 1, packet.len(), if keep { "kept" } else { "-" });
+        if shown {
+            println!("{:6}  {:6}  {}", at + 1, packet.len(), if keep { "kept" } else { "-" });
+        }
     }
-    println!("kept {kept} of {} packets, {bytes} bytes", packets.len());
+    if shown {
+        println!("kept {kept} of {} packets, {bytes} bytes", packets.len());
+    }
+}
+
+fn run(page: PageFunction, raw: bool, name: &str, times: usize) -> Outcome<()> {
+    let pcap = read(name)?;
+    let packets = packets(&pcap).map_err(|why| format!("{name}: {why}"))?;
+    (0..times).for_each(|time| run_once(page, raw, &packets, time == 0));
     Ok(())
 }
 
-fn main() -> ExitCode {
-    let words: Vec<String> = std::env::args().skip(1).collect();
-    let (mut raw, mut standard, mut compact, mut names) = (false, false, false, &words[..]);
-    while let [word, behind @ ..] = names {
+/// How often: a number from 1 up, of nine digits at the most.
+fn times_of(word: &str) -> Option<usize> {
+    let is_number = word.len() <= 9 && word.bytes().all(|byte| byte.is_ascii_digit());
+    word.parse().ok().filter(|times| is_number && *times > 0)
+}
+
+/// What the loader is asked for.
+struct Asked {
+    flags: Flags,
+    perf_map: bool,
+    times: usize,
+    filter: String,
+    pcap: String,
+}
+
+/// None where the words are no way to ask for anything.
+fn asked(mut words: impl Iterator<Item = String>) -> Option<Asked> {
+    let mut flags = Flags { use_mbuff: true, ..Flags::default() };
+    let (mut perf_map, mut times) = (false, 1);
+    let filter = loop {
+        let word = words.next()?;
         match word.as_str() {
-            "--raw" => raw = true,
-            "--standard" => standard = true,
-            "--compact" => compact = true,
-            _ => break,
+            "--raw" => flags.use_mbuff = false,
+            "--standard" => flags.standard = true,
+            "--compact" => flags.compact = true,
+            "--perf-map" => perf_map = true,
+            "--times" => times = times_of(&words.next()?)?,
+            _ => break word,
         }
-        names = behind;
-    }
-    let [filter, pcap] = names else {
-        eprintln!("usage: loader [--raw] [--standard] [--compact] FILTER PCAP");
+    };
+    let pcap = words.next()?;
+    words.next().is_none().then_some(Asked { flags, perf_map, times, filter, pcap })
+}
+
+fn main() -> ExitCode {
+    let Some(Asked { flags, perf_map, times, filter, pcap }) = asked(std::env::args().skip(1))
+    else {
+        eprintln!(
+            "usage: loader [--raw] [--standard] [--compact] [--perf-map] [--times N] FILTER PCAP"
+        );
         return 2.into();
     };
-    let flags = Flags { use_mbuff: !raw, standard, compact, ..Flags::default() };
-    match load(filter, flags).and_then(|page| run(page, raw, pcap)) {
+    let raw = !flags.use_mbuff;
+    match load(&filter, flags, perf_map).and_then(|page| run(page, raw, &pcap, times)) {
         Ok(()) => 0.into(),
         Err(sentence) => {
             eprintln!("loader: {sentence}");

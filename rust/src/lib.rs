@@ -1,9 +1,11 @@
 //! Ndakoleem for Rust: turns an eBPF filter into the x86-64 page that decides
 //! which packets are kept.
 //!
-//! `translate` is one call of the static library `libndakoleem.a`, which is
+//! [`translate`] is one call of the static library `libndakoleem.a`, which is
 //! proved; this crate adds Rust's types to it and nothing else. Every program
 //! and every set of buffers gets an answer, and a refusal changes no byte.
+//! [`translate_mapped`] makes besides the map by which perf names the slots:
+//! one call of `libndakoleem_map.a`, which is proved too.
 //!
 //! ```
 //! # fn main() -> Result<(), ndakoleem::Refusal> {
@@ -59,6 +61,11 @@ pub const CODE_ENOUGH: usize = CODE_LONGEST.next_multiple_of(CODE_MIN);
 pub const TABLE_ENOUGH: usize = SLOTS_MAX + 1;
 /// The most helpers.
 pub const HELPERS_MAX: usize = 256;
+/// The longest line of a map in bytes, its end among them.
+pub const MAP_LINE_MAX: usize = 30;
+/// Bytes in which every program's map finds room: a line for each slot, for the
+/// prologue and for the epilogue.
+pub const MAP_ENOUGH: usize = MAP_LINE_MAX * (SLOTS_MAX + 2);
 /// In the table of targets: a jump to the exit.
 pub const EXIT_TARGET: u32 = 1_000_001;
 
@@ -145,6 +152,53 @@ pub struct Accepted {
     pub jumps: usize,
 }
 
+/// How much of the buffers a translation with a map has filled.
+#[derive(Clone, Copy, Debug, PartialEq, Eq)]
+pub struct Mapped {
+    /// As without a map.
+    pub accepted: Accepted,
+    /// Bytes of text.
+    pub text: usize,
+}
+
+/// Calls a function of the library: with what `translate` takes, and what goes
+/// behind it.
+macro_rules! call {
+    ($function:ident, $program:ident, $flags:ident, $helpers:ident, $code:ident, $tables:ident
+        $(, $behind:expr)*) => {{
+        let Tables { locations, fields, targets, kinds, makers } = $tables;
+        // Each pointer is a slice's, good for its length; what is written is
+        // lent by `&mut`, so nothing overlaps it.
+        unsafe {
+            raw::$function(
+                $program.as_ptr(),
+                $program.len(),
+                $flags.use_mbuff,
+                $flags.update_data_ptr,
+                $flags.standard,
+                $flags.compact,
+                $helpers.ids.as_ptr(),
+                $helpers.ids.len(),
+                $helpers.addresses.as_ptr(),
+                $helpers.addresses.len(),
+                $code.as_mut_ptr(),
+                $code.len(),
+                locations.as_mut_ptr(),
+                locations.len(),
+                fields.as_mut_ptr(),
+                fields.len(),
+                targets.as_mut_ptr(),
+                targets.len(),
+                kinds.as_mut_ptr(),
+                kinds.len(),
+                makers.as_mut_ptr(),
+                makers.len(),
+                $($behind),*
+            )
+        }
+    }};
+}
+
 /// Translates a program: the code is at the head of `code`, what is known of
 /// it at the head of `tables`, and everything behind is as it was. Refused,
 /// everything is as it was.
@@ -155,37 +209,41 @@ pub fn translate(
     code: &mut [u8],
     tables: Tables,
 ) -> Result<Accepted, Refusal> {
-    let Tables { locations, fields, targets, kinds, makers } = tables;
-    // Each pointer is a slice's, good for its length; what is written is lent
-    // by `&mut`, so nothing overlaps it.
-    let answer = unsafe {
-        raw::ndakoleem_translate_4(
-            program.as_ptr(),
-            program.len(),
-            flags.use_mbuff,
-            flags.update_data_ptr,
-            flags.standard,
-            flags.compact,
-            helpers.ids.as_ptr(),
-            helpers.ids.len(),
-            helpers.addresses.as_ptr(),
-            helpers.addresses.len(),
-            code.as_mut_ptr(),
-            code.len(),
-            locations.as_mut_ptr(),
-            locations.len(),
-            fields.as_mut_ptr(),
-            fields.len(),
-            targets.as_mut_ptr(),
-            targets.len(),
-            kinds.as_mut_ptr(),
-            kinds.len(),
-            makers.as_mut_ptr(),
-            makers.len(),
-        )
-    };
-    match Reason::of(answer.number) {
-        None => Ok(Accepted { length: answer.length, jumps: answer.jumps }),
-        Some(reason) => Err(Refusal::new(reason, answer.slot, program)),
-    }
+    let answer = call!(ndakoleem_translate_4, program, flags, helpers, code, tables);
+    Refusal::unless_accepted(answer.number, answer.slot, program)?;
+    Ok(Accepted { length: answer.length, jumps: answer.jumps })
+}
+
+/// [`translate`], and at the head of `text` the map of the page, by which perf
+/// names the slots. `base` is the address of the page's first byte when it
+/// runs, so memory is mapped for the page before it is translated.
+///
+/// The map is ASCII. A line is `START SIZE NAME`, an address and a number of
+/// bytes in hexadecimal: the prologue, then each slot that has bytes, a wide
+/// load by its first slot, then the epilogue, without a gap. perf looks for it
+/// in the file `/tmp/perf-PID.map`, PID being the process that runs the page,
+/// whose user has to own the file.
+pub fn translate_mapped(
+    program: &[u8],
+    flags: Flags,
+    helpers: Helpers,
+    code: &mut [u8],
+    tables: Tables,
+    base: u64,
+    text: &mut [u8],
+) -> Result<Mapped, Refusal> {
+    let answer = call!(
+        ndakoleem_translate_mapped_1,
+        program,
+        flags,
+        helpers,
+        code,
+        tables,
+        base,
+        text.as_mut_ptr(),
+        text.len()
+    );
+    Refusal::unless_accepted(answer.number, answer.slot, program)?;
+    let accepted = Accepted { length: answer.length, jumps: answer.jumps };
+    Ok(Mapped { accepted, text: answer.text })
 }

@@ -1,7 +1,8 @@
 //! Buffers of sufficient size, owned.
 
 use crate::{
-    translate, Accepted, Flags, Helpers, Refusal, Tables, CODE_ENOUGH, SLOT, TABLE_ENOUGH,
+    translate, translate_mapped, Accepted, Flags, Helpers, Refusal, Tables, CODE_ENOUGH, SLOT,
+    TABLE_ENOUGH,
 };
 
 /// A page with its tables: memory in which every program finds room, and what
@@ -45,6 +46,33 @@ impl Page {
         flags: Flags,
         helpers: Helpers,
     ) -> Result<&[u8], Refusal> {
+        let (code, tables) = self.lent();
+        let accepted = translate(program, flags, helpers, code, tables)?;
+        self.keep(program, accepted);
+        Ok(self.code())
+    }
+
+    /// Translates a program and gives the map of its page, as
+    /// [`translate_mapped`] explains it: the head of `text`, of which
+    /// [`MAP_ENOUGH`](crate::MAP_ENOUGH) bytes do for every program. The code
+    /// is to be copied to the address `base`. Refused, the page is as it was,
+    /// and so is `text`.
+    pub fn translate_mapped<'a>(
+        &mut self,
+        program: &[u8],
+        flags: Flags,
+        helpers: Helpers,
+        base: u64,
+        text: &'a mut [u8],
+    ) -> Result<&'a [u8], Refusal> {
+        let (code, tables) = self.lent();
+        let mapped = translate_mapped(program, flags, helpers, code, tables, base, text)?;
+        self.keep(program, mapped.accepted);
+        Ok(&text[..mapped.text])
+    }
+
+    /// All that a translation fills.
+    fn lent(&mut self) -> (&mut [u8], Tables<'_>) {
         let tables = Tables {
             locations: &mut self.locations,
             fields: &mut self.fields,
@@ -52,9 +80,12 @@ impl Page {
             kinds: &mut self.kinds,
             makers: &mut self.makers,
         };
-        self.accepted = translate(program, flags, helpers, &mut self.code, tables)?;
+        (&mut self.code, tables)
+    }
+
+    fn keep(&mut self, program: &[u8], accepted: Accepted) {
+        self.accepted = accepted;
         self.entries = program.len() / SLOT + 1;
-        Ok(self.code())
     }
 
     /// The code.

@@ -1,5 +1,6 @@
-//! The static library's functions as C sees them. `include/ndakoleem.h`
-//! explains each argument; `crate::translate` calls them safely.
+//! The static libraries' functions as C sees them. `include/ndakoleem.h`
+//! explains each argument; `crate::translate` and
+//! `crate::translate_mapped` call them safely.
 
 /// The four numbers of an answer, laid out as C's `struct ndakoleem_translation`.
 #[repr(C)]
@@ -9,6 +10,17 @@ pub struct Translation {
     pub slot: usize,
     pub length: usize,
     pub jumps: usize,
+}
+
+/// The five of an answer with a map, laid out as C's `struct ndakoleem_mapped`.
+#[repr(C)]
+#[derive(Clone, Copy, Debug, PartialEq, Eq)]
+pub struct Mapped {
+    pub number: u8,
+    pub slot: usize,
+    pub length: usize,
+    pub jumps: usize,
+    pub text: usize,
 }
 
 /// Bytes in which every sentence finds room.
@@ -52,4 +64,37 @@ extern "C" {
         out: *mut u8,
         out_length: usize,
     ) -> usize;
+}
+
+// A library of its own: a loader that wants no map links nothing of it.
+#[link(name = "ndakoleem_map", kind = "static")]
+extern "C" {
+    /// [`ndakoleem_translate_4`], with the page's map.
+    pub fn ndakoleem_translate_mapped_1(
+        program: *const u8,
+        program_length: usize,
+        use_mbuff: bool,
+        update_data_ptr: bool,
+        standard: bool,
+        compact: bool,
+        ids: *const u32,
+        ids_length: usize,
+        addresses: *const u64,
+        addresses_length: usize,
+        code: *mut u8,
+        code_length: usize,
+        locations: *mut u32,
+        locations_length: usize,
+        fields: *mut u32,
+        fields_length: usize,
+        targets: *mut u32,
+        targets_length: usize,
+        kinds: *mut u32,
+        kinds_length: usize,
+        makers: *mut u32,
+        makers_length: usize,
+        base: u64,
+        text: *mut u8,
+        text_length: usize,
+    ) -> Mapped;
 }

@@ -40,13 +40,17 @@ pub enum Reason {
     NoRoom = 13,
     /// A jump or a local call goes to no slot of the program.
     BadTarget = 14,
+    /// With a map: the base and the code's length make more than 2^64 - 1.
+    BaseTooHigh = 15,
+    /// With a map: it does not fit into the text buffer.
+    TextTooShort = 16,
 }
 
 impl Reason {
     /// None for 0, which is no refusal.
     pub(crate) fn of(number: u8) -> Option<Reason> {
         use Reason::*;
-        const ALL: [Reason; 14] = [
+        const ALL: [Reason; 16] = [
             CodeTooShort,
             CodeTooLong,
             ProgramTooLong,
@@ -61,11 +65,13 @@ impl Reason {
             BadCall,
             NoRoom,
             BadTarget,
+            BaseTooHigh,
+            TextTooShort,
         ];
         number.checked_sub(1).map(|at| ALL[at as usize])
     }
 
-    /// 1 to 14.
+    /// 1 to 16.
     pub fn number(self) -> u8 {
         self as u8
     }
@@ -76,15 +82,20 @@ impl Reason {
 pub struct Refusal {
     /// Why.
     pub reason: Reason,
-    /// The slot that is at fault; 0 for the reasons 1 to 5, which have none,
-    /// and the number of slots where the epilogue has no room (13).
+    /// The slot that is at fault; 0 for the reasons 1 to 5, 15 and 16, which
+    /// have none, and the number of slots where the epilogue has no room (13).
     pub slot: usize,
     sentence: [u8; raw::SENTENCE_ENOUGH],
     length: usize,
 }
 
 impl Refusal {
-    pub(crate) fn new(reason: Reason, slot: usize, program: &[u8]) -> Refusal {
+    /// The refusal that an answer is, where it is one.
+    pub(crate) fn unless_accepted(number: u8, slot: usize, program: &[u8]) -> Result<(), Refusal> {
+        Reason::of(number).map_or(Ok(()), |reason| Err(Refusal::new(reason, slot, program)))
+    }
+
+    fn new(reason: Reason, slot: usize, program: &[u8]) -> Refusal {
         let mut sentence = [0; raw::SENTENCE_ENOUGH];
         // Both pointers are a slice's or an array's, good for the length beside them.
         let length = unsafe {

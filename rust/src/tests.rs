@@ -1,5 +1,5 @@
 //! That the crate hands on what it is given and gives back what it is told:
-//! EXIT's 51 bytes, each buffer behind them, flags, helpers, limits, and
+//! EXIT's 51 bytes, each buffer behind them, flags, helpers, limits, maps, and
 //! refusals in words. What the library itself answers is proved, and tested elsewhere.
 
 extern crate std;
@@ -13,6 +13,7 @@ use crate::{
     TABLE_ENOUGH,
 };
 
+mod maps;
 mod numbers;
 
 const EXIT: [u8; 8] = [0x95, 0, 0, 0, 0, 0, 0, 0];
@@ -272,7 +273,7 @@ fn an_unknown_opcode_in_words() {
 
 #[test]
 fn every_number_is_its_reason() {
-    for number in 1..=14 {
+    for number in 1..=16 {
         assert_eq!(Reason::of(number).map(Reason::number), Some(number));
     }
     assert_eq!(Reason::of(0), None);

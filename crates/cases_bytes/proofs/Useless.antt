@@ -16,7 +16,7 @@ use Rattle.jit.specs.declared.Refusal.{Refusal}
 use Rattle.jit.specs.declared.Refusal.the-variants.{Torn}
 use Rattle.cases_problems.specs.Problems.{problemNumber}
 use Rattle.cases_bytes.specs.Stored.{Stored}
-use Rattle.cases_bytes.specs.Answers.{framed, refusedBytes, acceptedBytes, roomFor, refusalLine}
+use Rattle.cases_bytes.specs.Answers.{framed, refusedBytes, acceptedBytes, roomFor, refusedLine, refusalLine}
 use Rattle.cases_bytes.specs.Cases.{lengthsEnd, idsIn, addressesAt, addressesIn, programAt, programIn, wrongWith, partsOf, noCase, caseOf, idAt, addressAt, filled}
 
 -- a byte of what was put, where it fitted
@@ -66,11 +66,11 @@ module _ (l l′ : List ℕ) (r : ℕ) (fits : roomFor (length l) 1 2 1 1 1 1 �
 
 -- put_refusal_line: the slot ahead of the number; no newline
 pub slot-first : refusalLine (Torn (record { number = 3 })) ≡ ascii "refused 3 6" ++ (10 ∷ []) → ⊥
-unfolding refusalLine decimal
+unfolding refusedLine decimal
 slot-first e = let z : _≡_ {A = ℕ} 54 51 = ap (λ (t : List ℕ). getD t 8 0) e in omega (arith, z)
 
 pub no-newline : refusalLine (Torn (record { number = 3 })) ≡ ascii "refused 6 3" → ⊥
-unfolding refusalLine decimal
+unfolding refusedLine decimal
 no-newline e = let z : _≡_ {A = ℕ} 12 11 = ap (length {A = ℕ}) e in omega (arith, z)
 
 -- take_apart, of a case with the flag use_mbuff, one helper and a program of one byte: a flag not seen; a program from where its length is; an id

@@ -47,5 +47,8 @@ roomFor o c l f t k m =
     && (leb c lentPage && (leb l lentTable && (leb f lentTable && (leb t lentTable && (leb k lentTable && leb m lentTable)))))
 
 -- as `refused 6 0`
-unfoldable pub refusalLine : Refusal → List ℕ
-refusalLine r = formed (ascii "refused # #") (numberOf r ∷ slotOf r ∷ []) ++ (10 ∷ [])
+unfoldable pub refusedLine : (number slot : ℕ) → List ℕ
+refusedLine number slot = formed (ascii "refused # #") (number ∷ slot ∷ []) ++ (10 ∷ [])
+
+abbrev pub refusalLine : Refusal → List ℕ
+refusalLine r = refusedLine (numberOf r) (slotOf r)

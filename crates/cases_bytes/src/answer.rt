@@ -4,7 +4,7 @@ ghost use Prim.Native.Nat.{_+_, _*_, _≤_, min};
 ghost use lib.ListN.{length};
 ghost use Rattle.text.specs.Lent.{Says};
 ghost use Rattle.cases_bytes.specs.Lent.{held, Put, Stored, refusedFits, acceptedFits, tables, acceptedBytes};
-ghost use Rattle.cases_bytes.specs.Answers.{refusedBytes, entries, acceptedHead, roomFor, refusalLine};
+ghost use Rattle.cases_bytes.specs.Answers.{refusedBytes, entries, acceptedHead, roomFor, refusedLine, refusalLine};
 ghost use Rattle.cases_bytes.specs.Limits.{lentPage, lentTable};
 use crate::limits;
 use crate::numbers;
@@ -13,13 +13,19 @@ use text::form::put_form;
 use text::text::put_byte;
 
 // The line by which a program tells a refusal: its number and its slot, with the newline. 48 bytes hold it.
+pub fn put_refused_line(out: &mut [u8], number: u8, slot: usize) -> usize
+    ensures { λ r. ⌜ Says out 0 r (refusedLine number slot) ⌝ }
+{
+    let end = put_form(out, 0, b"refused # #", &[number as u64, slot as u64]);
+    put_byte(out, end, b'\n')
+}
+
+// The same of a refusal of the translator.
 pub fn put_refusal_line(out: &mut [u8], refusal: Refusal) -> usize
     ensures { λ r. ⌜ Says out 0 r (refusalLine refusal) ⌝ }
 {
-    let number = refusals::number_of(refusal) as u64;
-    let slot = refusals::slot_of(refusal) as u64;
-    let end = put_form(out, 0, b"refused # #", &[number, slot]);
-    put_byte(out, end, b'\n')
+    let number = refusals::number_of(refusal);
+    put_refused_line(out, number, refusals::slot_of(refusal))
 }
 
 // The entries of a table, four bytes each, and the next place.

@@ -7,6 +7,7 @@ ghost use Rattle.cases_bytes.specs.Lent.{Inside};
 use crate::marks;
 use cases_bytes::answer;
 use cases_bytes::limits;
+use cases_bytes::limits::least;
 use cases_bytes::parts;
 use cases_bytes::parts::Case;
 use cases_bytes::stream;
@@ -40,12 +41,6 @@ fn reply_of(size: usize) -> Reply
         problem: Problem::Nothing,
         size,
     }
-}
-
-fn least(a: usize, b: usize) -> usize
-    ensures { λ r. ⌜ (r ≤ a) × (r ≤ b) ⌝ }
-{
-    if a < b { a } else { b }
 }
 
 // What has changed behind the first `end` bytes, `ends` locations and `jumps` jumps.

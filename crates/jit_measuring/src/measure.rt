@@ -153,7 +153,7 @@ fn measure_call(mode: Mode, ids: &[u32], addresses: &[u64], n: usize, slot: Slot
 }
 
 // `kinds` is the opcode table, n the number of slots.
-fn measure_slot(
+pub fn measure_slot(
     kinds: &[u8; 256],
     prog: &[u8],
     mode: Mode,

@@ -1,2 +1,3 @@
 pub mod Theorem
+pub mod MapTheorem
 pub mod Lent

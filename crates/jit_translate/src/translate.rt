@@ -27,7 +27,7 @@ pub enum Answer {
     Refused(Refusal),
 }
 
-fn prologue_size(flags: Flags) -> usize
+pub fn prologue_size(flags: Flags) -> usize
     ensures { λ r. ⌜ (r ≡ size (prologue flags)) × (r ≤ longestPrologue) ⌝ }
 {
     if flags.use_mbuff {
@@ -40,7 +40,7 @@ fn prologue_size(flags: Flags) -> usize
 }
 
 // Whether the program is translated, and if not, why: `decide` below, by the opcode table, which `translate` lays out once for both halves.
-fn decide_in(
+pub fn decide_in(
     numbers: &[u8; 256],
     prog: &[u8],
     flags: Flags,

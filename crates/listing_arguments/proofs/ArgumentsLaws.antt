@@ -11,7 +11,7 @@ use lib.ListN.{length, length-drop, getD, take, drop, drop-of-length-le, List·g
 use lib.Seq.{drop-cons, take-all, take-length}
 use Rattle.bytes.specs.Bytes.{indexOf, slice}
 use Rattle.base.proofs.Tests.{T-true, true-T, and-l, and-r}
-use Rattle.listing_arguments.specs.Arguments.{equal, digitOf, grown, readOn, digits, numberOf, helper, addressOf, helperOf}
+use Rattle.listing_arguments.specs.Arguments.{equal, digitOf, grown, readOn, digits, prefixed, numberOf, helper, addressOf, helperOf}
 use Rattle.listing_arguments.specs.declared.Number.{Number}
 use Rattle.listing_arguments.specs.declared.Number.the-variants.{Is, Not}
 
@@ -56,21 +56,21 @@ pub first-some : (w : List ℕ) (d : ℕ) → ¬ (length w ≡ 0) → getD w 0 0
 first-some [] d h = absurd (h refl)
 first-some (a ∷ w) d h = refl
 
-pub plain-short : (w : List ℕ) → length w < 2 → digits 10 w ≡ numberOf w
-unfolding numberOf
-plain-short w h = let e : getD w 1 0 ≡ 0 = List·getD-eq-default w 0 (omega arith) in rw (e, and-false (eqb (getD w 0 0) 0x30))
+pub plain-short : (b : ℕ) (w : List ℕ) → length w < 2 → digits b w ≡ prefixed b w
+unfolding prefixed
+plain-short b w h = let e : getD w 1 0 ≡ 0 = List·getD-eq-default w 0 (omega arith) in rw (e, and-false (eqb (getD w 0 0) 0x30))
 
-pub plain-first : (w : List ℕ) → ¬ (getD w 0 0 ≡ 0x30) → digits 10 w ≡ numberOf w
-unfolding numberOf
-plain-first w h = rw (ne-eqb (getD w 0 0) 0x30 h)
+pub plain-first : (b : ℕ) (w : List ℕ) → ¬ (getD w 0 0 ≡ 0x30) → digits b w ≡ prefixed b w
+unfolding prefixed
+plain-first b w h = rw (ne-eqb (getD w 0 0) 0x30 h)
 
-pub plain-second : (w : List ℕ) → ¬ (getD w 1 0 ≡ 0x78) → digits 10 w ≡ numberOf w
-unfolding numberOf
-plain-second w h = rw (ne-eqb (getD w 1 0) 0x78 h, and-false (eqb (getD w 0 0) 0x30))
+pub plain-second : (b : ℕ) (w : List ℕ) → ¬ (getD w 1 0 ≡ 0x78) → digits b w ≡ prefixed b w
+unfolding prefixed
+plain-second b w h = rw (ne-eqb (getD w 1 0) 0x78 h, and-false (eqb (getD w 0 0) 0x30))
 
-pub hexadecimal : (w : List ℕ) → getD w 0 0 ≡ 0x30 → getD w 1 0 ≡ 0x78 → digits 16 (drop 2 w) ≡ numberOf w
-unfolding numberOf
-hexadecimal w h k = rw (h, k)
+pub hexadecimal : (b : ℕ) (w : List ℕ) → getD w 0 0 ≡ 0x30 → getD w 1 0 ≡ 0x78 → digits 16 (drop 2 w) ≡ prefixed b w
+unfolding prefixed
+hexadecimal b w h k = rw (h, k)
 
 -- digit by digit,
 pub digits-none : (b : ℕ) (w : List ℕ) → length w ≡ 0 → Not ≡ digits b w

@@ -1,13 +1,15 @@
--- The words that a listing is asked for with: which option a word is and what it adds to the mode, a number, a helper.
+-- The words that a listing or a map is asked for with: which option a word is and what it adds to the mode, a number, a helper, a base
+-- address.
 use mathlib.Core.Bool.{Bool, true, false, _&&_}
 use mathlib.Core.List.{List, [], _∷_}
-use Prim.Native.Nat.{ℕ, _+_, _*_, _-_, _^_}
-use lib.Dec.{ltb, leb, eqb}
+use Prim.Native.Nat.{ℕ, _+_, _*_, _^_}
+use lib.Dec.{ltb, eqb}
 use lib.ListN.{length, getD, take, drop}
 use Rattle.bytes.specs.Bytes.{indexOf}
 use Rattle.base.specs.Pick.{pick}
 use Rattle.jit.specs.declared.Mode.{Mode}
 use Rattle.text.specs.Text.{ascii}
+unfoldable pub use Rattle.text.specs.Numerals.{digitOf}
 use Rattle.listing_arguments.specs.declared.Number.{Number}
 use Rattle.listing_arguments.specs.declared.Number.the-variants.{Is, Not}
 use Rattle.listing_arguments.specs.declared.Helper.{Helper}
@@ -44,13 +46,6 @@ modeWith m Help = m
 modeWith m File = m
 modeWith m Unknown = m
 
--- what a character counts as a digit, `0` to `9`, `A` to `F` and `a` to `f`; 16 where it is none
-unfoldable pub digitOf : ℕ → ℕ
-digitOf c =
-    pick (ltb c 0x30) 16
-    (pick (leb c 0x39) (c - 0x30)
-    (pick (ltb c 0x41) 16 (pick (leb c 0x46) (c - 0x41 + 10) (pick (ltb c 0x61) 16 (pick (leb c 0x66) (c - 0x61 + 10) 16)))))
-
 -- a number with one digit more, where the character is one and the number stays below 2^64
 unfoldable pub grown : ℕ → ℕ → ℕ → Number
 grown b n d = pick (ltb d b) (pick (ltb (n * b + d) (2 ^ 64)) (Is (n * b + d)) Not) Not
@@ -65,9 +60,17 @@ unfoldable pub digits : ℕ → List ℕ → Number
 digits b [] = Not
 digits b (c ∷ cs) = readOn b (Is 0) (c ∷ cs)
 
+-- hexadecimal behind `0x`; else in the base b
+unfoldable pub prefixed : ℕ → List ℕ → Number
+prefixed b w = pick (eqb (getD w 0 0) 0x30 && eqb (getD w 1 0) 0x78) (digits 16 (drop 2 w)) (digits b w)
+
 -- decimal, or hexadecimal behind `0x`
-unfoldable pub numberOf : List ℕ → Number
-numberOf w = pick (eqb (getD w 0 0) 0x30 && eqb (getD w 1 0) 0x78) (digits 16 (drop 2 w)) (digits 10 w)
+abbrev pub numberOf : List ℕ → Number
+numberOf w = prefixed 10 w
+
+-- hexadecimal, behind `0x` or as it stands
+abbrev pub baseOf : List ℕ → Number
+baseOf w = prefixed 16 w
 
 abbrev pub helper : Number → Number → Helper
 helper (Is i) (Is a) = pick (ltb i (2 ^ 32)) (Listed i a) Unclear

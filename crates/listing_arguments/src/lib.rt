@@ -1,10 +1,11 @@
-// The words that a listing and a translation are asked for with, read: which option a word is and what it adds to the mode, a number, a
-// helper. What a program does with them stands in program_listing and program_translate.
+// The words that a listing, a map and a translation are asked for with, read: which option a word is and what it adds to the mode, a number,
+// a helper, a base address. What a program does with them stands in listing_options and program_translate.
 ghost use mathlib.Core.Path.{_≡_};
 ghost use Prim.Native.Nat.{_≤_, _<_};
-ghost use Rattle.listing_arguments.specs.Arguments.{equal, wordOf, modeWith, digitOf, numberOf, addressOf, helperOf};
+ghost use Rattle.listing_arguments.specs.Arguments.{equal, wordOf, modeWith, digitOf, numberOf, baseOf, addressOf, helperOf};
 ghost use Rattle.listing_arguments.specs.Arguments.{digits as Arguments·digits};
 ghost use Rattle.listing_arguments.specs.Arguments.{grown as Arguments·grown};
+ghost use Rattle.listing_arguments.specs.Arguments.{prefixed as Arguments·prefixed};
 use jit::Mode;
 
 pub enum Word {
@@ -154,20 +155,35 @@ fn digits(base: u64, word: &[u8]) -> Number
     Number::Is(n)
 }
 
+// In hexadecimal behind 0x; else in the base that is said.
+fn prefixed(base: u64, word: &[u8]) -> Number
+    requires { ⌜ 0 < base ⌝ }
+    ensures { λ r. ⌜ r ≡ Arguments·prefixed base (now (word .entry)) ⌝ }
+{
+    if word.len() < 2 {
+        return digits(base, word);
+    }
+    if word[0] != b'0' {
+        return digits(base, word);
+    }
+    if word[1] != b'x' {
+        return digits(base, word);
+    }
+    digits(16, &word[2..])
+}
+
 // A number in decimal or, behind 0x, in hexadecimal.
 pub fn number_of(word: &[u8]) -> Number
     ensures { λ r. ⌜ r ≡ numberOf (now (word .entry)) ⌝ }
 {
-    if word.len() < 2 {
-        return digits(10, word);
-    }
-    if word[0] != b'0' {
-        return digits(10, word);
-    }
-    if word[1] != b'x' {
-        return digits(10, word);
-    }
-    digits(16, &word[2..])
+    prefixed(10, word)
+}
+
+// A base address: a number in hexadecimal, with or without 0x in front.
+pub fn base_of(word: &[u8]) -> Number
+    ensures { λ r. ⌜ r ≡ baseOf (now (word .entry)) ⌝ }
+{
+    prefixed(16, word)
 }
 
 fn address_of(word: &[u8], at: usize) -> Number

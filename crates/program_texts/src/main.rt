@@ -6,6 +6,7 @@ ghost use lib.ListN.{length};
 ghost use Rattle.jit.specs.Limits.{longestPage};
 use cases_bytes::answer::put_refusal_line;
 use cases_bytes::limits;
+use cases_bytes::limits::least;
 use cases_bytes::parts;
 use cases_bytes::parts::Case;
 use cases_bytes::stream;
@@ -47,12 +48,6 @@ fn show_answer(answer: Answer) {
             jumps: _,
         } => (),
     }
-}
-
-fn least(a: usize, b: usize) -> usize
-    ensures { λ r. ⌜ (r ≤ a) × (r ≤ b) ⌝ }
-{
-    if a < b { a } else { b }
 }
 
 // Of a longer table than there is the whole is lent, which the translator cannot tell.

@@ -16,7 +16,7 @@ use Rattle.text.proofs.SaysLaws.{stands}
 use Rattle.text.specs.Forms.{formed}
 use Rattle.text.specs.Numerals.{decimal, extended}
 use Rattle.text.proofs.NumeralLaws.{decimal-most, signed-most}
-use Rattle.refusals_text.specs.Sentences.{torn, badRegister, noRoom, targetFrom, badTarget, sizeReason, opcodeReason, slotReason}
+use Rattle.refusals_text.specs.Sentences.{torn, badRegister, noRoom, targetFrom, badTarget, sizeReason, opcodeReason, slotReason, mapReason}
 use Rattle.refusals_text.specs.Sentences.{placeOf, reasonOf, numberedAs, sentenceOf, sentenceEnough, Sentence}
 
 -- The longest reason is that of refusal 12, here as if src could have 20 digits.
@@ -77,17 +77,24 @@ slot-most prog number slot i =
     (either (eqb number 7) _ _ (register-most i)
     (either (eqb number 6) _ _ (torn-most prog slot) (opcode-most number i))))
 
+map-most : (number : ℕ) → Short (mapReason number)
+unfolding mapReason
+map-most number = either (eqb number 16) _ _ (omega arith) (either (eqb number 15) _ _ (omega arith) (omega arith))
+
 reason-most : (prog : List ℕ) (number slot : ℕ) → Short (reasonOf prog number slot)
 unfolding reasonOf
-reason-most prog number slot = either (ltb number 6) _ _ (size-most prog number) (slot-most prog number slot (fieldsAt prog slot))
+reason-most prog number slot =
+    either (ltb number 6) _ _ (size-most prog number)
+    (either (ltb 14 number) _ _ (map-most number) (slot-most prog number slot (fieldsAt prog slot)))
 
 place-most : (number slot : ℕ) → length (placeOf number slot) ≤ 27
 unfolding placeOf
-place-most number slot = by (ltb number 6)
+place-most number slot = by (ltb number 6) (ltb 14 number)
   where
-    by : (t : Bool) → length (pick t [] (formed (ascii "slot #: ") (slot ∷ []))) ≤ 27
-    by true = omega arith
-    by false = simp length-append (omega (arith, decimal-most slot))
+    by : (t u : Bool) → length (pick t [] (pick u [] (formed (ascii "slot #: ") (slot ∷ [])))) ≤ 27
+    by true u = omega arith
+    by false true = omega arith
+    by false false = simp length-append (omega (arith, decimal-most slot))
 
 numbered-most : (number : ℕ) → length (numberedAs number) ≤ 31
 unfolding numberedAs

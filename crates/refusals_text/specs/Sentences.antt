@@ -43,7 +43,7 @@ badTarget prog slot i =
     (formed (ascii "a local call to slot ~, the program ends at #") (targetFrom slot (i .imm) ∷ length prog / 8 ∷ []))
     (formed (ascii "a jump to slot ~, the program ends at #") (targetFrom slot (i .off) ∷ length prog / 8 ∷ []))
 
--- The table of docs/REFUSALS.md: 1 to 5, which are of no slot, and 6 to 14.
+-- The table of docs/REFUSALS.md: 1 to 5, which are of no slot, 6 to 14, and 15 and 16, which are of no slot either.
 abbrev pub sizeReasons : List ℕ → List (Arm (List ℕ))
 sizeReasons prog =
     5 ⇒ formed (ascii "the helper lists differ in length, are longer than #, or hold an id twice") (mostHelpers ∷ [])
@@ -78,12 +78,22 @@ slotReasons prog slot i = 14 ⇒ badTarget prog slot i ∷ 13 ⇒ noRoom prog sl
 unfoldable pub slotReason : List ℕ → ℕ → ℕ → Insn → List ℕ
 slotReason prog number slot i = cases (slotReasons prog slot i) (opcodeReason number i) number
 
--- refusals 1 to 5 are of no slot
+abbrev pub mapReasons : List (Arm (List ℕ))
+mapReasons =
+    16 ⇒ ascii "the text buffer is too short for the page's map: 30 bytes for each slot and 60 more are enough"
+    ∷ 15 ⇒ ascii "the page's base address is too high: with the code's length it is above 0xffffffffffffffff"
+    ∷ []
+
+unfoldable pub mapReason : ℕ → List ℕ
+mapReason number = cases mapReasons noReason number
+
+-- refusals 1 to 5, and those of the map, are of no slot
 unfoldable pub placeOf : ℕ → ℕ → List ℕ
-placeOf number slot = pick (ltb number 6) [] (formed (ascii "slot #: ") (slot ∷ []))
+placeOf number slot = pick (ltb number 6) [] (pick (ltb 14 number) [] (formed (ascii "slot #: ") (slot ∷ [])))
 
 unfoldable pub reasonOf : List ℕ → ℕ → ℕ → List ℕ
-reasonOf prog number slot = pick (ltb number 6) (sizeReason prog number) (slotReason prog number slot (fieldsAt prog slot))
+reasonOf prog number slot =
+    pick (ltb number 6) (sizeReason prog number) (pick (ltb 14 number) (mapReason number) (slotReason prog number slot (fieldsAt prog slot)))
 
 unfoldable pub numberedAs : ℕ → List ℕ
 numberedAs number = formed (ascii " (refusal #)") (number ∷ [])

@@ -3,7 +3,7 @@
 ghost use mathlib.Core.Path.{_≡_};
 ghost use Rattle.text.specs.Lent.{Says, given};
 ghost use Rattle.refusals_text.specs.Sentences.{torn, badRegister, noRoom, targetFrom, badTarget};
-ghost use Rattle.refusals_text.specs.Sentences.{placeOf, sizeReason, opcodeReason, slotReason, reasonOf};
+ghost use Rattle.refusals_text.specs.Sentences.{placeOf, sizeReason, opcodeReason, slotReason, mapReason, reasonOf};
 ghost use Rattle.refusals_text.specs.Lent.{Sentence};
 use ebpf::constants::CALL;
 use ebpf::constants::INSN_SIZE;
@@ -94,11 +94,14 @@ fn put_bad_target(out: &mut [u8], at: usize, prog: &[u8], slot: usize, insn: Ins
     )
 }
 
-// Refusals 1 to 5 are of no slot.
+// Refusals 1 to 5, and those of the map, are of no slot.
 fn put_place(out: &mut [u8], at: usize, number: u8, slot: usize) -> usize
     ensures { λ r. ⌜ Says out at r (placeOf number slot) ⌝ }
 {
     if number < 6 {
+        return at;
+    }
+    if 14 < number {
         return at;
     }
     put_form(out, at, b"slot #: ", &[slot as u64])
@@ -193,11 +196,33 @@ fn put_slot_reason(
     }
 }
 
+// Refusals 15 and 16, of the page's map.
+fn put_map_reason(out: &mut [u8], at: usize, number: u8) -> usize
+    ensures { λ r. ⌜ Says out at r (mapReason number) ⌝ }
+{
+    match number {
+        15 => put_text(
+            out,
+            at,
+            b"the page's base address is too high: with the code's length it is above 0xffffffffffffffff",
+        ),
+        16 => put_text(
+            out,
+            at,
+            b"the text buffer is too short for the page's map: 30 bytes for each slot and 60 more are enough",
+        ),
+        _ => put_text(out, at, b"refused for a reason that has no name"),
+    }
+}
+
 fn put_reason(out: &mut [u8], at: usize, prog: &[u8], number: u8, slot: usize) -> usize
     ensures { λ r. ⌜ Says out at r (reasonOf (given prog) number slot) ⌝ }
 {
     if number < 6 {
         return put_size_reason(out, at, prog, number);
+    }
+    if 14 < number {
+        return put_map_reason(out, at, number);
     }
     let insn = fields_at(prog, slot);
     put_slot_reason(out, at, prog, number, slot, insn)

@@ -1,4 +1,5 @@
 pub mod SaysLaws
 pub mod NumeralLaws
+pub mod DigitsLaws
 pub mod FormLaws
 pub mod Wrong

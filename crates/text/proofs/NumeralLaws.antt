@@ -1,5 +1,5 @@
 -- The laws of specs/Numerals.antt: what the functions meet, that a numeral is read back as its number, and how long it can be.
-use mathlib.Core.Path.{_≡_, refl}
+use mathlib.Core.Path.{_≡_, _∙_, refl, ap, sym}
 use mathlib.Core.List.{List, [], _∷_, _++_}
 use Prim.Native.Nat.{ℕ, zero, suc, _+_, _*_, _-_, _/_, _%_, _≤_, _<_, _^_}
 use native.Mathlib.Omega.{arith}
@@ -9,20 +9,28 @@ use borrow.Author.Tests.{lt-ltb, le-ltb, ltb-true, ltb-false}
 use mathlib.Core.Bool.{Bool, true, false}
 use native.Mathlib.Nat.{pow-zero, pow-suc, mod-lt, div-lt-iff-lt-mul, div-add-mod'}
 use Rattle.base.specs.Pick.{pick}
+use Rattle.base.proofs.Table.{agree}
 use Rattle.text.specs.Text.{ascii}
-use Rattle.text.specs.Numerals.{apart, decimal, extended, glyph, hex, numeral, signed, withSign}
+use Rattle.text.specs.Numerals.{apart, decimal, digitOf, extended, glyph, hex, mostDigits, numeral, signed, withSign}
 
--- what the function that writes a numeral meets: no digit, one, or more
-pub numeral-none : (b n : ℕ) {most : ℕ} → most ≡ 0 → [] ≡ numeral b most n
-numeral-none b n e = rw e
+module _ (b : ℕ) (more : 1 < b) where
+  -- what is divided has fewer digits
+  fewer : (most n : ℕ) → n < b ^ suc most → n / b < b ^ most
+  fewer most n h = let p : 0 < b = omega arith in div-lt-iff-lt-mul p .1 (rw (pow-suc b most) at h)
 
-pub numeral-one : (b n most : ℕ) → ¬ (most ≡ 0) → n < b → glyph n ∷ [] ≡ numeral b most n
-numeral-one b n zero f h = absurd (f refl)
-numeral-one b n (suc most) f h = rw (lt-ltb n b h)
+  -- no more digits come of it that more may come
+  pub enough : (most n : ℕ) → n < b ^ suc most → numeral b (suc (suc most)) n ≡ numeral b (suc most) n
+  enough zero n h = rw (lt-ltb n b (omega (arith, rw (pow-suc b 0, pow-zero b) at h)))
+  enough (suc most) n h =
+      ap (λ (ds : List ℕ). pick (ltb n b) (glyph n ∷ []) (ds ++ (glyph (n % b) ∷ []))) (enough most (n / b) (fewer (suc most) n h))
 
-pub numeral-more : (b n most : ℕ) → ¬ (most ≡ 0) → b ≤ n → numeral b (most - 1) (n / b) ++ (glyph (n % b) ∷ []) ≡ numeral b most n
-numeral-more b n zero f h = absurd (f refl)
-numeral-more b n (suc most) f h = let e : suc most - 1 ≡ most = omega arith in rw (e, le-ltb n b h)
+  -- one digit; or those of what is divided, and the last
+  pub one-digit : (most n : ℕ) → n < b → numeral b (suc most) n ≡ glyph n ∷ []
+  one-digit most n h = rw (lt-ltb n b h)
+
+  pub last-digit : (most n : ℕ) → b ≤ n → n < b ^ suc most → numeral b (suc most) n ≡ numeral b (suc most) (n / b) ++ (glyph (n % b) ∷ [])
+  last-digit zero n f h = absurd (omega (arith, rw (pow-suc b 0, pow-zero b) at h))
+  last-digit (suc most) n f h = rw (le-ltb n b f, enough most (n / b) (fewer (suc most) n h))
 
 -- the two signs
 pub signed-plus : (x : ℕ) → x < 2 ^ 63 → decimal x ≡ signed x
@@ -44,38 +52,31 @@ pub apart-minus : (x : ℕ) → 2 ^ 63 ≤ x → ascii "- " ++ decimal (2 ^ 64 -
 apart-minus x h = rw (le-ltb x (2 ^ 63) h)
 
 -- A numeral, read back.
-abbrev worth : ℕ → ℕ
-worth c = pick (ltb c 0x3a) (c - 0x30) (c - 0x57)
-
-abbrev readFrom : ℕ → ℕ → List ℕ → ℕ
+abbrev pub readFrom : ℕ → ℕ → List ℕ → ℕ
 readFrom b n [] = n
-readFrom b n (c ∷ cs) = readFrom b (n * b + worth c) cs
+readFrom b n (c ∷ cs) = readFrom b (n * b + digitOf c) cs
 
 abbrev pub read : ℕ → List ℕ → ℕ
 read b cs = readFrom b 0 cs
 
-worth-glyph : (d : ℕ) → d < 16 → worth (glyph d) ≡ d
-worth-glyph d h = by (ltb d 10) refl
-  where
-    by : (t : Bool) → ltb d 10 ≡ t → worth (glyph d) ≡ d
-    by true e = let g : d < 10 = ltb-true _ _ e in rw (e, lt-ltb (0x30 + d) 0x3a (omega arith)) (omega arith)
-    by false e = let g : 10 ≤ d = ltb-false _ _ e in rw (e, le-ltb (0x57 + d) 0x3a (omega arith)) (omega arith)
+pub digit-glyph : (d : ℕ) → d < 16 → digitOf (glyph d) ≡ d
+unfolding digitOf
+digit-glyph d h = agree (λ k. digitOf (glyph k)) (λ k. k) 16 refl d h
 
-read-last : (b n c : ℕ) (cs : List ℕ) → readFrom b n (cs ++ (c ∷ [])) ≡ readFrom b n cs * b + worth c
+read-last : (b n c : ℕ) (cs : List ℕ) → readFrom b n (cs ++ (c ∷ [])) ≡ readFrom b n cs * b + digitOf c
 read-last b n c [] = refl
-read-last b n c (d ∷ cs) = read-last b (n * b + worth d) c cs
+read-last b n c (d ∷ cs) = read-last b (n * b + digitOf d) c cs
 
 module _ (b : ℕ) (more : 1 < b) (most16 : b ≤ 16) where
   read-digit : (most n : ℕ) → (n / b < b ^ most → read b (numeral b most (n / b)) ≡ n / b) → n < b ^ suc most → read b (numeral b (suc most) n) ≡ n
   read-digit most n ih h = by (ltb n b) refl
     where
       by : (t : Bool) → ltb n b ≡ t → read b (numeral b (suc most) n) ≡ n
-      by true e = let g : n < b = ltb-true _ _ e in rw (e, worth-glyph n (omega arith)) (omega arith)
+      by true e = let g : n < b = ltb-true _ _ e in rw (e, digit-glyph n (omega arith)) (omega arith)
       by false e =
           let p : 0 < b = omega arith in
           let m = mod-lt n {m = b} p in
-          let fewer : n / b < b ^ most = div-lt-iff-lt-mul p .1 (rw (pow-suc b most) at h) in
-          rw (e, read-last b 0 (glyph (n % b)) (numeral b most (n / b)), ih fewer, worth-glyph (n % b) (omega arith)) (div-add-mod' n b)
+          rw (e, read-last b 0 (glyph (n % b)) (numeral b most (n / b)), ih (fewer b more most n h), digit-glyph (n % b) (omega arith)) (div-add-mod' n b)
 
   pub read-back : (most n : ℕ) → n < b ^ most → read b (numeral b most n) ≡ n
   read-back zero n h = omega (arith, rw (pow-zero b) at h)
@@ -85,9 +86,59 @@ pub decimal-back : (n : ℕ) → n < 2 ^ 64 → read 10 (decimal n) ≡ n
 unfolding decimal
 decimal-back n h = read-back 10 (omega arith) (omega arith) 20 n (omega arith)
 
+-- two numbers of twenty digits at most have two numerals
+pub decimal-one : (m n : ℕ) → m < 10 ^ 20 → n < 10 ^ 20 → decimal m ≡ decimal n → m ≡ n
+unfolding decimal
+decimal-one m n f h e =
+    sym (read-back 10 (omega arith) (omega arith) 20 m f) ∙ ap (λ (t : List ℕ). read 10 t) e ∙ read-back 10 (omega arith) (omega arith) 20 n h
+
 pub hex-back : (n : ℕ) → n < 2 ^ 64 → read 16 (hex n) ≡ n
 unfolding hex
 hex-back n h = read-back 16 (omega arith) (omega arith) 16 n (omega arith)
+
+-- Each character of a numeral is a digit of its base.
+abbrev pub Digits : ℕ → List ℕ → Type 0
+Digits b [] = Unit {0}
+Digits b (c ∷ cs) = (digitOf c < b) × Digits b cs
+
+pub digits-append : (b : ℕ) (xs ys : List ℕ) → Digits b xs → Digits b ys → Digits b (xs ++ ys)
+digits-append b [] ys p q = q
+digits-append b (x ∷ xs) ys p q = (p .0, digits-append b xs ys (p .1) q)
+
+module _ (b : ℕ) (more : 1 < b) (most16 : b ≤ 16) where
+  digit-below : (d : ℕ) → d < b → digitOf (glyph d) < b
+  digit-below d h = rw (digit-glyph d (omega arith)) h
+
+  pub numeral-digits : (most n : ℕ) → Digits b (numeral b most n)
+  numeral-digits zero n = tt
+  numeral-digits (suc most) n = by (ltb n b) refl (numeral-digits most (n / b))
+    where
+      by : (t : Bool) → ltb n b ≡ t → Digits b (numeral b most (n / b))
+          → Digits b (pick t (glyph n ∷ []) (numeral b most (n / b) ++ (glyph (n % b) ∷ [])))
+      by true e h = (digit-below n (ltb-true _ _ e), tt)
+      by false e h =
+          let p : 0 < b = omega arith in
+          digits-append b (numeral b most (n / b)) (glyph (n % b) ∷ []) h (digit-below (n % b) (mod-lt n {m = b} p), tt)
+
+-- .. and it has at least one
+pub numeral-some : (b most n : ℕ) → 1 ≤ length (numeral b (suc most) n)
+numeral-some b most n = by (ltb n b)
+  where
+    by : (t : Bool) → 1 ≤ length (pick t (glyph n ∷ []) (numeral b most (n / b) ++ (glyph (n % b) ∷ [])))
+    by true = omega arith
+    by false = omega (arith, length-append (numeral b most (n / b)) (glyph (n % b) ∷ []))
+
+pub hex-digits : (n : ℕ) → Digits 16 (hex n)
+unfolding hex
+hex-digits n = numeral-digits 16 (omega arith) (omega arith) 16 n
+
+pub hex-some : (n : ℕ) → 1 ≤ length (hex n)
+unfolding hex
+hex-some n = numeral-some 16 15 n
+
+pub decimal-digits : (n : ℕ) → Digits 10 (decimal n)
+unfolding decimal
+decimal-digits n = numeral-digits 10 (omega arith) (omega arith) 20 n
 
 -- A numeral has no more digits than it may have, whatever the number.
 pub numeral-most : (b most n : ℕ) → length (numeral b most n) ≤ most
@@ -97,6 +148,30 @@ numeral-most b (suc most) n = by (ltb n b) (numeral-most b most (n / b))
     by : (t : Bool) → length (numeral b most (n / b)) ≤ most → length (pick t (glyph n ∷ []) (numeral b most (n / b) ++ (glyph (n % b) ∷ []))) ≤ suc most
     by true h = omega arith
     by false h = omega (arith, length-append (numeral b most (n / b)) (glyph (n % b) ∷ []))
+
+-- .. and no more than the number needs
+pub few-digits : (b most k n : ℕ) → 1 < b → n < b ^ suc k → length (numeral b most n) ≤ suc k
+few-digits b zero k n more h = omega arith
+few-digits b (suc most) zero n more h =
+    rw (lt-ltb n b (omega (arith, rw (pow-suc b 0, pow-zero b) at h))) (omega arith)
+few-digits b (suc most) (suc k) n more h = by (ltb n b) (few-digits b most k (n / b) more (fewer b more (suc k) n h))
+  where
+    by : (t : Bool) → length (numeral b most (n / b)) ≤ suc k
+        → length (pick t (glyph n ∷ []) (numeral b most (n / b) ++ (glyph (n % b) ∷ []))) ≤ suc (suc k)
+    by true g = omega arith
+    by false g = omega (arith, length-append (numeral b most (n / b)) (glyph (n % b) ∷ []))
+
+pub few-hex : (k n : ℕ) → n < 16 ^ suc k → length (hex n) ≤ suc k
+unfolding hex
+few-hex k n h = few-digits 16 16 k n (omega arith) h
+
+pub hex-most : (n : ℕ) → length (hex n) ≤ 16
+unfolding hex
+hex-most n = numeral-most 16 16 n
+
+pub few-decimal : (k n : ℕ) → n < 10 ^ suc k → length (decimal n) ≤ suc k
+unfolding decimal
+few-decimal k n h = few-digits 10 mostDigits k n (omega arith) h
 
 pub decimal-most : (n : ℕ) → length (decimal n) ≤ 20
 unfolding decimal

@@ -1,56 +1,42 @@
 // Numbers into a lent buffer, as text.rt does bytes.
 ghost use mathlib.Core.Path.{_≡_};
-ghost use Prim.Native.Nat.{_-_, _≤_, _<_, _^_};
-ghost use Rattle.text.specs.Numerals.{numeral, decimal, hex, hexByte, signed, withSign, apart};
+ghost use Prim.Native.Nat.{_-_, _≤_, _^_};
+ghost use Rattle.text.specs.Numerals.{numeral, mostDigits, decimal, hex, hexByte, signed, withSign, apart};
 ghost use Rattle.text.specs.Numerals.{extended as Numerals·extended};
-ghost use Rattle.text.specs.Numerals.{glyph as Numerals·glyph};
-ghost use Rattle.text.specs.Lent.{Says};
+ghost use Rattle.text.specs.Lent.{Says, Spelled};
+use crate::digits::MOST_DIGITS;
+use crate::digits::PAIRS;
+use crate::digits::glyph;
+use crate::digits::put_digits;
 use crate::text::put_byte;
+use crate::text::put_text;
 
 // In two's complement the numbers from here on are negative.
 const HALF: u64 = 0x8000_0000_0000_0000;
 
 const LARGEST: u64 = 0xffff_ffff_ffff_ffff;
 
-// The digits from 10 on are letters.
-const LETTERS: u8 = b'a' - 10;
-
-fn glyph(d: u64) -> u8
-    requires { ⌜ d < 16 ⌝ }
-    ensures { λ r. ⌜ r ≡ Numerals·glyph d ⌝ }
+// n in a base of 10 or more; its digits are made beside, and cut as any text is.
+fn put_numeral(out: &mut [u8], at: usize, base: u64, n: u64) -> usize
+    requires { ⌜ Spelled base n ⌝ }
+    ensures { λ r. ⌜ Says out at r (numeral base mostDigits n) ⌝ }
 {
-    if d < 10 {
-        return b'0' + d as u8;
-    }
-    LETTERS + d as u8
-}
-
-// At most `most` digits of n.
-fn put_numeral(out: &mut [u8], at: usize, base: u64, most: usize, n: u64) -> usize
-    requires { ⌜ (1 < base) × (base ≤ 16) ⌝ }
-    ensures { λ r. ⌜ Says out at r (numeral base most n) ⌝ }
-{
-    if most == 0 {
-        return at;
-    }
-    if n < base {
-        return put_byte(out, at, glyph(n));
-    }
-    let last = glyph(n % base);
-    let next = put_numeral(out, at, base, most - 1, n / base);
-    put_byte(out, next, last)
+    let pairs = PAIRS;
+    let mut made = [0u8; MOST_DIGITS];
+    let end = put_digits(&mut made, 0, &pairs, base, n);
+    put_text(out, at, &made[..end])
 }
 
 pub fn put_decimal(out: &mut [u8], at: usize, n: u64) -> usize
     ensures { λ r. ⌜ Says out at r (decimal n) ⌝ }
 {
-    put_numeral(out, at, 10, 20, n)
+    put_numeral(out, at, 10, n)
 }
 
 pub fn put_hex(out: &mut [u8], at: usize, n: u64) -> usize
     ensures { λ r. ⌜ Says out at r (hex n) ⌝ }
 {
-    put_numeral(out, at, 16, 16, n)
+    put_numeral(out, at, 16, n)
 }
 
 pub fn put_hex_byte(out: &mut [u8], at: usize, x: u8) -> usize

@@ -14,7 +14,7 @@ use std::vec::Vec;
 use crate::raw::SENTENCE_ENOUGH;
 use crate::{
     JumpKind, Reason, CODE_ENOUGH, CODE_LONGEST, CODE_MAX, CODE_MIN, EXIT_TARGET, FRAME_CODE_MAX,
-    HELPERS_MAX, PROGRAM_MAX, SLOTS_MAX, SLOT_CODE_MAX, TABLE_ENOUGH,
+    HELPERS_MAX, MAP_ENOUGH, MAP_LINE_MAX, PROGRAM_MAX, SLOTS_MAX, SLOT_CODE_MAX, TABLE_ENOUGH,
 };
 
 const HEADER: &str = include_str!("../../../include/ndakoleem.h");
@@ -134,11 +134,13 @@ fn the_header_has_the_same_numbers() {
     says("CODE_LONGEST", CODE_LONGEST);
     says("CODE_ENOUGH", CODE_ENOUGH);
     says("TABLE_ENOUGH", TABLE_ENOUGH);
+    says("MAP_LINE_MAX", MAP_LINE_MAX);
+    says("MAP_ENOUGH", MAP_ENOUGH);
     says("HELPERS_MAX", HELPERS_MAX);
     says("EXIT_TARGET", EXIT_TARGET as usize);
     says("SENTENCE_ENOUGH", SENTENCE_ENOUGH);
     says("ACCEPTED", 0);
-    for number in 1..=14 {
+    for number in 1..=16 {
         says(&in_c(Reason::of(number).expect("a reason")), number as usize);
     }
     for number in 1..=3 {
@@ -147,7 +149,7 @@ fn the_header_has_the_same_numbers() {
     }
     // No number of the header is left out above.
     let named = header.keys().filter(|name| name.starts_with("NDAKOLEEM_"));
-    assert_eq!(named.count(), 12 + 15 + 3);
+    assert_eq!(named.count(), 14 + 17 + 3);
 }
 
 #[test]
@@ -170,4 +172,16 @@ fn the_definitions_have_the_same_numbers() {
         assert_eq!(limits.get(name), Some(&number), "{name}");
     }
     assert_eq!(definitions(&["refusals_text"]).get("sentenceEnough"), Some(&SENTENCE_ENOUGH));
+}
+
+#[test]
+fn the_definitions_of_maps_have_the_same_numbers() {
+    let mapping = definitions(&["jit_mapping"]);
+    for (name, number) in [
+        ("longestLine", MAP_LINE_MAX),
+        ("numberOf BaseTooHigh", Reason::BaseTooHigh as usize),
+        ("numberOf TextTooShort", Reason::TextTooShort as usize),
+    ] {
+        assert_eq!(mapping.get(name), Some(&number), "{name}");
+    }
 }

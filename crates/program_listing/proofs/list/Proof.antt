@@ -4,11 +4,11 @@ use borrow.Author.Needs.{needs}
 use Rattle.program_listing.proofs.list.Statement.{statement}
 use Rattle.program_listing.proofs.list.Tie as tie
 
-slice-aggregate-read-program : tie.Need-slice-aggregate-read-program
-slice-aggregate-read-program c = search needs
+slice-aggregate-read-filter : tie.Need-slice-aggregate-read-filter
+slice-aggregate-read-filter c = search needs
 
-read-program-requires : tie.Need-read-program-requires
-read-program-requires c κs = search needs
+read-filter-requires : tie.Need-read-filter-requires
+read-filter-requires c κs = search needs
 
 returns : tie.Need-returns
 returns c = search needs
@@ -29,8 +29,8 @@ pub list-spec : {M : Type 1} → statement M
 list-spec =
     tie.close
     (tie.spec
-    slice-aggregate-read-program
-    read-program-requires
+    slice-aggregate-read-filter
+    read-filter-requires
     returns
     array-share-prefix-input
     slice-aggregate-list-lent

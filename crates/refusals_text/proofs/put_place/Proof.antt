@@ -9,6 +9,10 @@ returns : tie.Need-returns
 unfolding placeOf
 returns c = same nothing (rw (lt-ltb _ _ (c .if1 .taken)))
 
+returns-2 : tie.Need-returns-2
+unfolding placeOf
+returns-2 c = same nothing (rw (le-ltb _ _ (c .before .if1 .left), lt-ltb _ _ (c .if2 .taken)))
+
 slice-aggregate-put-form : tie.Need-slice-aggregate-put-form
 slice-aggregate-put-form c = search needs
 
@@ -21,17 +25,20 @@ put-form-requires c κs = search needs
 same-length : tie.Need-same-length
 same-length c = search needs
 
-returns-2 : tie.Need-returns-2
+returns-3 : tie.Need-returns-3
 unfolding placeOf
-returns-2 c = same (c .before .before .put-form .ensures) (rw (le-ltb _ _ (c .before .before .before .before .before .before .if1 .left)))
+returns-3 c =
+    let at = c .before .before .before .before .before .before in
+    same (c .before .before .put-form .ensures) (rw (le-ltb _ _ (at .before .if1 .left), le-ltb _ _ (at .if2 .left)))
 
 pub put-place-spec : {M : Type 1} → statement M
 put-place-spec =
     tie.close
     (tie.spec
     returns
+    returns-2
     slice-aggregate-put-form
     slice-aggregate-put-form-2
     put-form-requires
     same-length
-    returns-2)
+    returns-3)

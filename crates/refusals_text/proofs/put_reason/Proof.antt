@@ -15,11 +15,8 @@ returns : tie.Need-returns
 unfolding reasonOf
 returns c = same (c .before .before .put-size-reason .ensures) (rw (lt-ltb _ _ (c .before .before .before .before .if1 .taken)))
 
-fields-at-requires : tie.Need-fields-at-requires
-fields-at-requires c κs = search needs
-
-put-slot-reason-requires : tie.Need-put-slot-reason-requires
-put-slot-reason-requires c κs = search needs
+put-map-reason-requires : tie.Need-put-map-reason-requires
+put-map-reason-requires c κs = search needs
 
 same-length-2 : tie.Need-same-length-2
 same-length-2 c = search needs
@@ -27,8 +24,24 @@ same-length-2 c = search needs
 returns-2 : tie.Need-returns-2
 unfolding reasonOf
 returns-2 c =
+    let at = c .before .before .before .before in
+    same (c .before .before .put-map-reason .ensures) (rw (le-ltb _ _ (at .before .if1 .left), lt-ltb _ _ (at .if2 .taken)))
+
+fields-at-requires : tie.Need-fields-at-requires
+fields-at-requires c κs = search needs
+
+put-slot-reason-requires : tie.Need-put-slot-reason-requires
+put-slot-reason-requires c κs = search needs
+
+same-length-3 : tie.Need-same-length-3
+same-length-3 c = search needs
+
+returns-3 : tie.Need-returns-3
+unfolding reasonOf
+returns-3 c =
+    let fields = c .before .before .before .before in
     same (c .before .before .put-slot-reason .ensures)
-    (let fields = c .before .before .before .before in rw (le-ltb _ _ (fields .before .if1 .left), fields .fields-at .ensures))
+    (rw (le-ltb _ _ (fields .before .before .if1 .left), le-ltb _ _ (fields .before .if2 .left), fields .fields-at .ensures))
 
 pub put-reason-spec : {M : Type 1} → statement M
 put-reason-spec =
@@ -37,7 +50,10 @@ put-reason-spec =
     put-size-reason-requires
     same-length
     returns
+    put-map-reason-requires
+    same-length-2
+    returns-2
     fields-at-requires
     put-slot-reason-requires
-    same-length-2
-    returns-2)
+    same-length-3
+    returns-3)

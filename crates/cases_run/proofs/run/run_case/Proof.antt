@@ -1,3 +1,5 @@
+use native.Mathlib.Omega.{arith}
+use lib.ListN.{length-take}
 use lib.Seq.{length-take-le}
 use borrow.Author.Needs.{needs}
 use Rattle.cases_run.proofs.run.run_case.Statement.{statement}
@@ -52,37 +54,37 @@ slice-relend-prefix-run-lent : tie.Need-slice-relend-prefix-run-lent
 slice-relend-prefix-run-lent c = search needs
 
 slice-aggregate-run-lent-3 : tie.Need-slice-aggregate-run-lent-3
-slice-aggregate-run-lent-3 c = simp (length-take-le, c .before .before .before .before .before .before .before .before .before .least .ensures .1)
+slice-aggregate-run-lent-3 c = simp length-take (omega arith)
 
 slice-relend-prefix-run-lent-2 : tie.Need-slice-relend-prefix-run-lent-2
 slice-relend-prefix-run-lent-2 c = search needs
 
 slice-aggregate-run-lent-4 : tie.Need-slice-aggregate-run-lent-4
-slice-aggregate-run-lent-4 c = simp (length-take-le, c .before .before .before .before .before .before .before .before .before .least2 .ensures .1)
+slice-aggregate-run-lent-4 c = simp length-take (omega arith)
 
 slice-relend-prefix-run-lent-3 : tie.Need-slice-relend-prefix-run-lent-3
 slice-relend-prefix-run-lent-3 c = search needs
 
 slice-aggregate-run-lent-5 : tie.Need-slice-aggregate-run-lent-5
-slice-aggregate-run-lent-5 c = simp (length-take-le, c .before .before .before .before .before .before .before .before .before .least3 .ensures .1)
+slice-aggregate-run-lent-5 c = simp length-take (omega arith)
 
 slice-relend-prefix-run-lent-4 : tie.Need-slice-relend-prefix-run-lent-4
 slice-relend-prefix-run-lent-4 c = search needs
 
 slice-aggregate-run-lent-6 : tie.Need-slice-aggregate-run-lent-6
-slice-aggregate-run-lent-6 c = simp (length-take-le, c .before .before .before .before .before .before .before .before .before .least4 .ensures .1)
+slice-aggregate-run-lent-6 c = simp length-take (omega arith)
 
 slice-relend-prefix-run-lent-5 : tie.Need-slice-relend-prefix-run-lent-5
 slice-relend-prefix-run-lent-5 c = search needs
 
 slice-aggregate-run-lent-7 : tie.Need-slice-aggregate-run-lent-7
-slice-aggregate-run-lent-7 c = simp (length-take-le, c .before .before .before .before .before .before .before .before .before .least5 .ensures .1)
+slice-aggregate-run-lent-7 c = simp length-take (omega arith)
 
 slice-relend-prefix-run-lent-6 : tie.Need-slice-relend-prefix-run-lent-6
 slice-relend-prefix-run-lent-6 c = search needs
 
 slice-aggregate-run-lent-8 : tie.Need-slice-aggregate-run-lent-8
-slice-aggregate-run-lent-8 c = simp (length-take-le, c .before .before .before .before .before .before .before .before .before .least6 .ensures .1)
+slice-aggregate-run-lent-8 c = simp length-take (omega arith)
 
 run-lent-requires : tie.Need-run-lent-requires
 run-lent-requires c κs = search needs

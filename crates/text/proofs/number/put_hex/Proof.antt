@@ -1,4 +1,6 @@
-use Rattle.text.specs.Numerals.{hex}
+use native.Mathlib.Omega.{arith}
+use Rattle.text.proofs.SaysLaws.{same}
+use Rattle.text.proofs.DigitsLaws.{hex-is}
 use borrow.Author.Needs.{needs}
 use Rattle.text.proofs.number.put_hex.Statement.{statement}
 use Rattle.text.proofs.number.put_hex.Tie as tie
@@ -10,8 +12,7 @@ same-length : tie.Need-same-length
 same-length c = search needs
 
 returns : tie.Need-returns
-unfolding hex
-returns c = c .before .before .put-numeral .ensures
+returns c = same (c .before .before .put-numeral .ensures) (hex-is _ (omega arith))
 
 pub put-hex-spec : {M : Type 1} → statement M
 put-hex-spec = tie.close (tie.spec put-numeral-requires same-length returns)

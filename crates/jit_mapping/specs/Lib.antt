@@ -1,0 +1,6 @@
+pub mod Refusals
+pub mod Room
+pub mod Mapped
+pub mod Walked
+pub mod Rows
+pub mod Lent

@@ -1,0 +1,2 @@
+pub mod ExportedMap
+pub mod Lent
