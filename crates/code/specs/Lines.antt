@@ -6,7 +6,7 @@ use Rattle.code.specs.declared.Piece.{Piece}
 use Rattle.code.specs.declared.Piece.the-variants.{Prologue, Slot, Epilogue}
 use Rattle.code.specs.Instr.{Isa}
 use Rattle.code.specs.Code.{size}
-use Rattle.code.specs.Page.{Block, Page, slotsWide, exitOf, whole}
+use Rattle.code.specs.Page.{Block, Page, slotsWide, exitOf}
 use Rattle.code.specs.Landing.{SlotAt}
 
 abbrev pub slot : (number : ℕ) → Piece

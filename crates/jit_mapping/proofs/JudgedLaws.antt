@@ -1,7 +1,6 @@
 -- Whether there is a map (src/mapped.rt): the code's length as it is measured, and the tests on it.
 use mathlib.Core.Path.{_≡_, _∙_, refl, ap, sym}
 use mathlib.Core.Bool.{Bool, true, false}
-use mathlib.Core.List.{List}
 use Prim.Native.Nat.{ℕ, _+_, _-_, _≤_, _<_, _^_}
 use native.Mathlib.Omega.{arith}
 use lib.Dec.{leb, ltb, leb→le}
@@ -19,7 +18,7 @@ use Rattle.jit.specs.Passes.{walkFrom}
 use Rattle.jit.specs.Room.{epilogueSize}
 use Rattle.map.specs.MapText.{textOf}
 use Rattle.jit.specs.JumpTables.{blocksIn}
-use Rattle.jit.specs.Translation.{Filter, slotsOf, Block, Walk, refused, done, flat, firstBad}
+use Rattle.jit.specs.Translation.{Filter, slotsOf, Walk, flat, firstBad}
 use Rattle.jit_walk.specs.Acceptable.{Acceptable}
 use Rattle.jit_measuring.specs.declared.measure.Measured.{Measured}
 use Rattle.jit_measuring.specs.declared.measure.Measured.the-variants.{Refused, Done}

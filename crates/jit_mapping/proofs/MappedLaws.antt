@@ -1,8 +1,8 @@
 -- The laws of specs/Mapped.antt: it admits one answer only; how `judge_map` settles it, and how the writing functions meet it.
 use mathlib.Core.Path.{_≡_, _∙_, refl, ap, sym}
 use mathlib.Core.Bool.{Bool, true, false}
-use mathlib.Core.List.{List, [], _∷_, _++_, append-assoc}
-use Prim.Native.Nat.{ℕ, suc, _+_, _-_, _≤_, _<_, _^_, max, min}
+use mathlib.Core.List.{List, _++_, append-assoc}
+use Prim.Native.Nat.{ℕ, _+_, _-_, _≤_, _<_, _^_}
 use native.Mathlib.Omega.{arith}
 use native.Mathlib.Nat.{zero-add}
 use lib.Dec.{leb, ltb, leb→le}
@@ -29,18 +29,18 @@ use Rattle.jit.specs.Translation as translation
 use Rattle.jit.specs.Translation.{Inputs, Outcome, Block, slotsOf, slotsIn, flat, whole, pageOf, locations, accepted, walkOf, translationOf}
 use Rattle.jit.proofs.Bounds.{whole-size}
 use Rattle.jit.proofs.Counted.{all-slots, length-locations}
-use Rattle.jit.proofs.FrameLaws.{prologueSize, prologue-size}
+use Rattle.jit.proofs.FrameLaws.{prologue-size}
 use Rattle.jit_walk.specs.declared.verdict.Verdict.the-variants.{Good}
-use Rattle.jit_translate.specs.Translated.{answerOf as answerTo, verdictIn, codeIn, locationsIn, fieldsIn, targetsIn, Translated, Named, Decided}
+use Rattle.jit_translate.specs.Translated.{answerOf as answerTo, verdictIn, codeIn, locationsIn, fieldsIn, Translated, Named, Decided}
 use Rattle.jit_translate.specs.declared.translate.Answer.the-variants as translate
 use Rattle.jit_translate.proofs.DecidedLaws.{Ready, ready}
 use Rattle.jit_mapping.specs.declared.Answer.{Answer}
 use Rattle.jit_mapping.specs.declared.Answer.the-variants.{Accepted, Refused}
 use Rattle.jit_mapping.specs.declared.Refusal.{Refusal}
-use Rattle.jit_mapping.specs.declared.Refusal.the-variants.{Translation, BaseTooHigh, TextTooShort}
+use Rattle.jit_mapping.specs.declared.Refusal.the-variants.{BaseTooHigh, TextTooShort}
 use Rattle.jit_mapping.specs.declared.mapped.Fit.{Fit}
 use Rattle.jit_mapping.specs.declared.mapped.Fit.the-variants.{Fits, Not}
-use Rattle.jit_mapping.specs.Mapped.{mapText, Map, no, yes, mapIn, mapOf, answerOf, written, textIn, Buffers, Mapped}
+use Rattle.jit_mapping.specs.Mapped.{mapText, Map, no, yes, mapIn, mapOf, answerOf, textIn, Buffers, Mapped}
 use Rattle.jit_mapping.specs.Rows.{closedTable, tableLines, Rising}
 use Rattle.jit_mapping.specs.Walked.{walkLines, fitAt, Judging}
 use Rattle.jit_mapping.proofs.RowsLaws.{table-lines, rising-starts}

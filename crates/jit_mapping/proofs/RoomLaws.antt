@@ -1,23 +1,23 @@
 -- No line of a map has more than `longestLine` bytes (specs/Room.antt), and there is one at most for each slot, the prologue and the epilogue.
-use mathlib.Core.Path.{_≡_, _∙_, refl, ap, sym}
+use mathlib.Core.Path.{_≡_, ap}
 use mathlib.Core.List.{List, [], _∷_, _++_}
 use Prim.Native.Nat.{ℕ, zero, suc, _+_, _*_, _≤_, _<_, _^_}
 use native.Mathlib.Omega.{arith}
 use lib.ListN.{length, length-append}
 use Rattle.code.specs.declared.Piece.{Piece}
 use Rattle.code.specs.declared.Piece.the-variants.{Prologue, Epilogue}
-use Rattle.code.specs.Lines.{Line, line, slot, slotLines}
+use Rattle.code.specs.Lines.{line, slot, slotLines}
 use Rattle.text.proofs.NumeralLaws.{few-hex, few-decimal, hex-most}
 use Rattle.map.specs.MapText.{nameOf, textOf}
 use Rattle.map.proofs.LineLaws.{line-long}
 use Rattle.x86.specs.Encode.{isa}
 use Rattle.x86.specs.Code.{size}
 use Rattle.jit.specs.Limits.{longestProgram}
-use Rattle.jit.specs.Room.{longSlot, longestPrologue, epilogueSize}
+use Rattle.jit.specs.Room.{longestPrologue, epilogueSize}
 use Rattle.jit.specs.JumpTables.{blocksIn}
 use Rattle.jit.specs.Passes.{walkFrom}
-use Rattle.jit.specs.Translation.{Filter, Block, Walk, done, slotsOf, slotsWide, slotsIn, flat}
-use Rattle.jit.proofs.Bounds.{Sounds, Good, rest-good, sounds-inside, wide-some}
+use Rattle.jit.specs.Translation.{Filter, Block, done, slotsOf, slotsWide, slotsIn, flat}
+use Rattle.jit.proofs.Bounds.{Sounds, rest-good, sounds-inside, wide-some}
 use Rattle.jit_mapping.specs.Room.{longestLine, mapRoom}
 use Rattle.jit_mapping.specs.Walked.{walkLines}
 use Rattle.jit_mapping.proofs.RowsLaws.{text-append}

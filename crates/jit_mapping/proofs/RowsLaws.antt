@@ -1,20 +1,22 @@
 -- The loop over the table of locations: what holds at its head, and that the lines which it says are the page's.
 use mathlib.Core.Path.{_≡_, _∙_, refl, ap, sym}
 use mathlib.Core.Bool.{Bool, true, false}
-use mathlib.Core.List.{List, [], _∷_, _++_, append-assoc, append-nil}
-use Prim.Native.Nat.{ℕ, zero, suc, _+_, _-_, _≤_, _<_, _^_}
+use mathlib.Core.List.{List, [], _∷_, _++_, append-assoc}
+use Prim.Native.Nat.{ℕ, suc, _+_, _-_, _≤_, _<_, _^_}
 use native.Mathlib.Omega.{arith}
-use native.Mathlib.Nat.{add-zero, add-assoc, zero-add}
+use native.Mathlib.Nat.{add-zero, zero-add}
 use lib.Dec.{ltb}
 use lib.ListN.{length, length-append, getD, take, drop, List·getD-append}
 use lib.Seq.{drop-cons, getD-take, getD-at, getD-append-add, length-take-le}
 use borrow.Author.Tests.{lt-ltb, le-ltb, ltb-true, ltb-false}
 use Rattle.base.specs.Pick.{pick}
 use Rattle.code.specs.declared.Piece.{Piece}
-use Rattle.code.specs.declared.Piece.the-variants.{Prologue, Epilogue}
+use Rattle.code.specs.declared.Piece.the-variants.{Prologue}
 use Rattle.code.specs.Lines.{Line, line, slot, slotLines}
 use Rattle.text.specs.Text.{Says}
-use Rattle.text.proofs.SaysLaws.{nothing, Leads, turn, drop-past, kept, then}
+use Rattle.text.specs.Numerals.{hex}
+use Rattle.text.proofs.NumeralLaws.{hex-some, hex-no-fewer}
+use Rattle.text.proofs.SaysLaws.{nothing, Leads, turn, drop-past, kept}
 use Rattle.map.specs.MapText.{lineText, textOf}
 use Rattle.map.proofs.LineLaws.{after}
 use Rattle.x86.specs.Encode.{isa}
@@ -24,7 +26,7 @@ use Rattle.jit.specs.Room.{epilogueSize}
 use Rattle.jit.specs.Passes.{starts}
 use Rattle.jit.specs.Translation.{Block, flat, entries, slotsWide, slotsIn}
 use Rattle.jit_mapping.specs.Walked.{walkLines}
-use Rattle.jit_mapping.specs.Rows.{pieceAt, rows, closedTable, tableLines, Rising, Closing, Closed}
+use Rattle.jit_mapping.specs.Rows.{pieceAt, rows, closedTable, Rising, Closing, Closed}
 
 pub text-append : (ks ls : List Line) → textOf (ks ++ ls) ≡ textOf ks ++ textOf ls
 text-append [] ls = refl
@@ -67,6 +69,13 @@ pub ended : {l l′ : List ℕ} {base : ℕ} {piece : Piece} (opened : Piece) {f
 ended opened {place = place} f p =
     let t = lt-ltb 0 place (omega arith) in
     record { says = rw t p; piece-is = rw t; from-is = rw t }
+
+-- every address has a digit, and one further on has no fewer
+pub counted-first : (address : ℕ) {digits : ℕ} → digits ≡ 1 → digits ≤ length (hex address)
+counted-first address e = omega (arith, e, hex-some address)
+
+pub counted : (base : ℕ) {digits from place : ℕ} → from ≤ place → digits ≡ length (hex (base + from)) → digits ≤ length (hex (base + place))
+counted base {from = from} {place = place} h e = omega (arith, e, hex-no-fewer (base + from) (base + place) (omega (arith, h)))
 
 -- what holds at the head of the loop
 pub record Rowing (n base end : ℕ) (table l₀ l : List ℕ) (piece : Piece) (from next k : ℕ) : Type 0 where

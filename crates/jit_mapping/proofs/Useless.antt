@@ -1,6 +1,6 @@
 -- What `Mapped` (specs/Mapped.antt) shuts out, each of its parts used. Wrong texts are shut out by map/proofs/Useless.antt, and here with them
 -- every text but `mapText`'s: the contract is an equation.
-use mathlib.Core.Path.{_≡_, _∙_, refl, ap, sym}
+use mathlib.Core.Path.{_≡_, _∙_, refl, ap}
 use mathlib.Core.Bool.{Bool, true, false}
 use mathlib.Core.Logic.{_≢_}
 use mathlib.Core.List.{List}

@@ -2,7 +2,7 @@
 use mathlib.Core.Path.{_≡_, _∙_, refl, ap, sym}
 use mathlib.Core.Bool.{Bool, true, false}
 use mathlib.Core.List.{List, [], _∷_, _++_, append-assoc, append-nil}
-use Prim.Native.Nat.{ℕ, zero, suc, _+_, _*_, _≤_, _<_, _^_}
+use Prim.Native.Nat.{ℕ, _+_, _*_, _≤_, _<_, _^_}
 use native.Mathlib.Omega.{arith}
 use native.Mathlib.Nat.{zero-add}
 use lib.Dec.{leb, leb→le, ltb}
@@ -26,7 +26,6 @@ use Rattle.jit.specs.JumpTables.{blocksIn}
 use Rattle.jit.specs.Translation.{Filter, slotsOf, at, Block, Step, stop, go, stepAt, Walk, refused, done, joined, within, slotsWide, slotsIn, flat, rest, pageOf}
 use Rattle.jit.proofs.FrameLaws.{epilogue-size}
 use Rattle.jit.proofs.Bounds.{wide-some}
-use Rattle.jit_walk.specs.Acceptable.{Acceptable}
 use Rattle.jit_walk.proofs.Sofar.{Sofar, begins, stops, goes-on, ends, next-is}
 use Rattle.jit_measuring.specs.declared.measure.Look.{Look}
 use Rattle.jit_measuring.specs.Looks.{Finds, wideOf}

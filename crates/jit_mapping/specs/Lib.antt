@@ -3,4 +3,5 @@ pub mod Room
 pub mod Mapped
 pub mod Walked
 pub mod Rows
+pub mod Passes
 pub mod Lent

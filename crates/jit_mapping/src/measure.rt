@@ -6,7 +6,7 @@ ghost use Rattle.jit.specs.Passes.{WithinLimits};
 ghost use Rattle.jit.specs.Translation.{slotsWide};
 ghost use Rattle.jit_walk.specs.Lent.{IsTable};
 ghost use Rattle.jit_measuring.specs.Looks.{wideOf};
-ghost use Rattle.jit_mapping.specs.Lent.{Accepted, textLength};
+ghost use Rattle.jit_mapping.specs.Passes.{Accepted, textLength};
 use base::Position;
 use base::Slot;
 use code::Piece;

@@ -5,17 +5,21 @@ ghost use lib.ListN.{length};
 ghost use Rattle.jit.specs.Room.{epilogueSize};
 ghost use Rattle.jit_mapping.specs.Rows.{pieceAt};
 ghost use Rattle.text.specs.Lent.{IsPairs};
-ghost use Rattle.jit_mapping.specs.Lent.{Closing, Closed, placeAt, WithRoom, SaysRows};
+ghost use Rattle.jit_mapping.specs.Passes.{Counted, Closing, Closed, placeAt, WithRoom, SaysRows};
 use base::Slot;
 use code::Piece;
 use map::line::put_line;
 use text::digits::PAIRS;
+use text::digits::Width;
+use text::digits::one_digit;
+use text::digits::widen;
 
-// The piece whose end is not known yet, where it begins in the page, and where its line begins in the text.
+// The piece whose end is not known yet, where it begins in the page, where its line begins in the text, and how wide the addresses are so far.
 pub struct Open {
     pub piece: Piece,
     pub from: usize,
     pub next: usize,
+    pub width: Width,
 }
 
 // An entry ends the piece before it, unless it is 0, as that of a second half.
@@ -27,8 +31,8 @@ fn close(
     place: usize,
     opened: Piece,
 ) -> Open
-    requires { ⌜ IsPairs pairs × Closing text base begun place ⌝ }
-    ensures { λ r. ⌜ Closed text base begun place opened r ⌝ }
+    requires { ⌜ IsPairs pairs × (Counted base begun × Closing text base begun place) ⌝ }
+    ensures { λ r. ⌜ Counted base r × Closed text base begun place opened r ⌝ }
 {
     if place == 0 {
         return begun;
@@ -36,11 +40,13 @@ fn close(
     let piece = begun.piece;
     let start = base + begun.from as u64;
     let bytes = (place - begun.from) as u64;
-    let next = put_line(text, begun.next, pairs, start, bytes, piece);
+    let width = widen(begun.width, start);
+    let next = put_line(text, begun.next, pairs, width.digits, start, bytes, piece);
     Open {
         piece: opened,
         from: place,
         next: next,
+        width: width,
     }
 }
 
@@ -77,6 +83,7 @@ pub fn write_map(locations: &[u32], n: usize, exit: usize, base: u64, text: &mut
         piece: Piece::Prologue,
         from: 0,
         next: 0,
+        width: one_digit(),
     };
     let mut k = 0;
     while k < n + 2 {

@@ -1,5 +1,5 @@
 -- The theorem of the map is proved: from the laws of `translate_mapped`'s contract, the theorem of the page, and the map that is read back.
-use mathlib.Core.Path.{_≡_, refl, sym, ap, _∙_}
+use mathlib.Core.Path.{_≡_, refl, ap, _∙_}
 use Prim.Native.Nat.{ℕ}
 use native.Mathlib.Omega.{arith}
 use lib.ListN.{length, take}
@@ -9,7 +9,7 @@ use Rattle.code.specs.Page.{whole}
 use Rattle.map.specs.ReadBack.{ReadBack}
 use Rattle.map.proofs.ReadBackLaws.{readBack}
 use Rattle.x86.specs.Encode.{isa}
-use Rattle.jit.specs.Translation.{Inputs, Outcome, translationOf}
+use Rattle.jit.specs.Translation.{Inputs, translationOf}
 use Rattle.jit.specs.JumpTables.{pageFor, kindsIn, makersIn}
 use Rattle.jit_safety.specs.Demand3.{Given}
 use Rattle.jit_translate.specs.Translated.{codeIn, locationsIn, fieldsIn, targetsIn}

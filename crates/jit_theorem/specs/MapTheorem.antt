@@ -9,7 +9,6 @@
 --
 -- `MapPromise` says it of one call; `MapTheorem` says that every call keeps it, that it can always be kept, and in one way only.
 use mathlib.Core.Path.{_≡_}
-use mathlib.Core.List.{List}
 use Prim.Native.Nat.{ℕ}
 use lib.ListN.{length, take}
 use Rattle.code.specs.Code.{size}

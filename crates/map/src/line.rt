@@ -4,7 +4,7 @@ ghost use mathlib.Core.List.{[], _∷_};
 ghost use Prim.Native.Nat.{_≤_};
 ghost use lib.ListN.{length};
 ghost use Rattle.text.specs.Lent.{Says, HasRoom, IsPairs};
-ghost use Rattle.text.specs.Text.{ascii};
+ghost use Rattle.text.specs.Numerals.{hex};
 ghost use Rattle.code.specs.Lines.{line};
 ghost use Rattle.code.specs.declared.Piece.the-variants.{Slot as Piece·Slot};
 ghost use Rattle.map.specs.MapText.{nameOf, textOf};
@@ -69,21 +69,23 @@ fn put_name(out: &mut [u8], at: usize, pairs: &[u16; 256], piece: Piece) -> usiz
     }
 }
 
+// `digits` says how many the start has.
 pub fn put_line(
     out: &mut [u8],
     at: usize,
     pairs: &[u16; 256],
+    digits: usize,
     start: u64,
     bytes: u64,
     piece: Piece,
 ) -> usize
-    requires { ⌜ IsPairs pairs × HasRoom out at (length (textOf (line start bytes piece))) ⌝ }
+    requires { ⌜ IsPairs pairs × ((digits ≡ length (hex start)) × HasRoom out at (length (textOf (line start bytes piece)))) ⌝ }
     ensures { λ r. ⌜ Says out at r (textOf (line start bytes piece)) ⌝ }
 {
     if bytes == 0 {
         return at;
     }
-    let started = digits::put_hex(out, at, pairs, start);
+    let started = digits::put_hex_counted(out, at, pairs, digits, start);
     let size = put_one(out, started, b' ');
     let sized = digits::put_hex(out, size, pairs, bytes);
     let name = put_one(out, sized, b' ');

@@ -3,20 +3,19 @@ use mathlib.Core.Path.{_≡_, _∙_, refl, ap, sym}
 use mathlib.Core.List.{List, [], _∷_, _++_, append-assoc}
 use Prim.Native.Nat.{ℕ, zero, suc, _+_, _*_, _-_, _/_, _%_, _≤_, _<_, _^_}
 use native.Mathlib.Omega.{arith}
-use native.Mathlib.Nat.{add-zero, div-le-self, div-lt-self, div-lt-iff-lt-mul, le-div-iff-mul-le, mul-le-mul, mul-le-mul-left, add-mul, mul-add, mul-suc, mul-assoc, div-add-mod, mul-add-div, mul-add-mod-self-left}
-use native.Mathlib.Nat.{mod-eq-of-lt, div-eq-of-lt, mod-lt, le-trans, lt-of-le-of-lt}
+use native.Mathlib.Nat.{add-zero, add-mul, mul-add, mul-suc, mul-assoc, mul-le-mul, mul-le-mul-left, le-trans, lt-of-le-of-lt, pow-suc, pow-le-pow-right}
+use native.Mathlib.Nat.{div-le-self, div-lt-self, div-lt-iff-lt-mul, le-div-iff-mul-le, div-eq-of-lt, div-add-mod, mul-add-div}
+use native.Mathlib.Nat.{mod-lt, mod-eq-of-lt, mul-add-mod-self-left}
 use lib.ListN.{length, length-append, set, getD}
 use lib.Seq.{sets, length-sets, set-comm}
 use Rattle.base.specs.Pick.{pick}
-use Rattle.base.specs.Table.{values}
 use Rattle.base.proofs.Table.{rule, agree}
 use mathlib.Core.Bool.{Bool, true, false}
 use lib.Dec.{ltb}
-use borrow.Author.Tests.{ltb-true}
-use Rattle.base.proofs.Lists.{sets-append}
+use borrow.Author.Tests.{ltb-true, ltb-false}
 use Rattle.text.specs.Text.{Says}
 use Rattle.text.specs.Numerals.{glyph, hex, mostDigits, numeral, pairs}
-use Rattle.text.proofs.NumeralLaws.{enough, one-digit, last-digit, numeral-most}
+use Rattle.text.proofs.NumeralLaws.{enough, one-digit, last-digit, numeral-most, few-hex, many-hex}
 
 -- the table has two digits at each number
 pair-at : (k : ℕ) → k < 256 → getD pairs k 0 ≡ glyph (k / 16) + 256 * glyph (k % 16)
@@ -334,3 +333,41 @@ pub said : {l l′ : List ℕ} (at end : ℕ) (ys : List ℕ) → end ≡ at + l
 said {l} at end ys e h q =
     let from : end - length ys ≡ at = omega arith in
     record { text = q ∙ ap (λ (k : ℕ). sets l k ys) from; next = omega arith }
+
+-- In the loop that widens: a width no larger than that of n.
+pub record Widening (n digits largest : ℕ) : Type 0 where
+  pub some : 0 < digits
+  pub power : largest + 1 ≡ 16 ^ digits
+  pub below : digits ≤ length (hex n)
+
+module _ {n digits largest : ℕ} (w : Widening n digits largest) (small : n < 2 ^ 64) where
+  module _ (h : largest < n) where
+    -- sixteen digits are enough for n
+    short-of-most : digits < 16
+    short-of-most = by (ltb digits 16) refl
+      where
+        by : (t : Bool) → ltb digits 16 ≡ t → digits < 16
+        by true e = ltb-true digits 16 e
+        by false e = absurd (omega (arith, w .power, pow-le-pow-right {n = 16} (omega arith) (ltb-false digits 16 e)))
+
+    pub fits : largest * 16 + 15 < 2 ^ 64
+    fits =
+        let most : digits ≤ 15 = omega (arith, short-of-most) in
+        omega (arith, w .power, pow-le-pow-right {n = 16} (omega arith) most)
+
+    pub widening : Widening n (digits + 1) (largest * 16 + 15)
+    widening =
+        let one : digits + 1 ≡ suc digits = omega arith in
+        rw one
+        (record {
+          some = omega arith;
+          power = omega (arith, w .power, pow-suc 16 digits);
+          below = many-hex digits n short-of-most (omega (arith, w .power));
+        })
+
+  pub widened : n ≤ largest → ((0 < digits) × (largest + 1 ≡ 16 ^ digits)) × (digits ≡ length (hex n))
+  widened h = ((w .some, w .power), omega (arith, w .below, enough-hex digits (w .some) (omega (arith, w .power))))
+    where
+      enough-hex : (k : ℕ) → 0 < k → n < 16 ^ k → length (hex n) ≤ k
+      enough-hex zero p f = absurd (omega arith)
+      enough-hex (suc k) p f = few-hex k n f

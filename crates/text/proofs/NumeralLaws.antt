@@ -7,7 +7,7 @@ use lib.Dec.{ltb}
 use lib.ListN.{length, length-append}
 use borrow.Author.Tests.{lt-ltb, le-ltb, ltb-true, ltb-false}
 use mathlib.Core.Bool.{Bool, true, false}
-use native.Mathlib.Nat.{pow-zero, pow-suc, mod-lt, div-lt-iff-lt-mul, div-add-mod'}
+use native.Mathlib.Nat.{pow-zero, pow-suc, one-le-pow, mul-le-mul-right, mod-lt, div-lt-iff-lt-mul, le-div-iff-mul-le, div-add-mod'}
 use Rattle.base.specs.Pick.{pick}
 use Rattle.base.proofs.Table.{agree}
 use Rattle.text.specs.Text.{ascii}
@@ -161,9 +161,44 @@ few-digits b (suc most) (suc k) n more h = by (ltb n b) (few-digits b most k (n 
     by true g = omega arith
     by false g = omega (arith, length-append (numeral b most (n / b)) (glyph (n % b) ∷ []))
 
+-- .. and as many as it needs
+pub many-digits : (b most k n : ℕ) → 1 < b → k < most → b ^ k ≤ n → suc k ≤ length (numeral b most n)
+many-digits b zero k n more f h = absurd (omega arith)
+many-digits b (suc most) zero n more f h = numeral-some b most n
+many-digits b (suc most) (suc k) n more f h =
+    let p : 0 < b = omega arith in
+    let power : b ^ k * b ≤ n = rw (pow-suc b k) at h in
+    let some : b ≤ n = omega (arith, mul-le-mul-right b (one-le-pow k b p), power) in
+    let front = many-digits b most k (n / b) more (omega arith) (le-div-iff-mul-le p .1 power) in
+    rw (le-ltb n b some) (omega (arith, front, length-append (numeral b most (n / b)) (glyph (n % b) ∷ [])))
+
+-- a larger number has no fewer
+pub no-fewer : (b most m n : ℕ) → 0 < b → m ≤ n → length (numeral b most m) ≤ length (numeral b most n)
+no-fewer b zero m n p h = omega arith
+no-fewer b (suc most) m n p h =
+    let less : m / b ≤ n / b = le-div-iff-mul-le p .1 (omega (arith, div-add-mod' m b, h)) in
+    by (ltb m b) (ltb n b) refl refl (no-fewer b most (m / b) (n / b) p less)
+  where
+    by : (s t : Bool) → ltb m b ≡ s → ltb n b ≡ t → length (numeral b most (m / b)) ≤ length (numeral b most (n / b))
+        → length (pick s (glyph m ∷ []) (numeral b most (m / b) ++ (glyph (m % b) ∷ [])))
+        ≤ length (pick t (glyph n ∷ []) (numeral b most (n / b) ++ (glyph (n % b) ∷ [])))
+    by true true e f g = omega arith
+    by true false e f g = omega (arith, length-append (numeral b most (n / b)) (glyph (n % b) ∷ []))
+    by false true e f g = absurd (omega (arith, ltb-false m b e, ltb-true n b f))
+    by false false e f g =
+        omega (arith, g, length-append (numeral b most (m / b)) (glyph (m % b) ∷ []), length-append (numeral b most (n / b)) (glyph (n % b) ∷ []))
+
 pub few-hex : (k n : ℕ) → n < 16 ^ suc k → length (hex n) ≤ suc k
 unfolding hex
 few-hex k n h = few-digits 16 16 k n (omega arith) h
+
+pub many-hex : (k n : ℕ) → k < 16 → 16 ^ k ≤ n → suc k ≤ length (hex n)
+unfolding hex
+many-hex k n f h = many-digits 16 16 k n (omega arith) f h
+
+pub hex-no-fewer : (m n : ℕ) → m ≤ n → length (hex m) ≤ length (hex n)
+unfolding hex
+hex-no-fewer m n h = no-fewer 16 16 m n (omega arith) h
 
 pub hex-most : (n : ℕ) → length (hex n) ≤ 16
 unfolding hex

@@ -8,6 +8,7 @@ use denote.Ref.{now}
 use Rattle.base.specs.Lent.{Slice, Lent}
 use Rattle.text.specs.Numerals.{pairs, mostDigits}
 use Rattle.text.specs.Text as T
+use Rattle.text.specs.declared.digits.Width.{Width}
 
 -- what a slice holds when it is lent
 abbrev pub given : Lent → List ℕ
@@ -31,3 +32,7 @@ IsPairs table = now table ≡ pairs
 -- n has no more digits than may be
 abbrev pub Spelled : (base n : ℕ) → Type 0
 Spelled base n = (1 < base) × ((base ≤ 16) × (n < base ^ mostDigits))
+
+-- the largest number of so many hexadecimal digits
+abbrev pub IsWidth : Width → Type 0
+IsWidth width = (0 < width .digits) × (width .largest + 1 ≡ 16 ^ (width .digits))

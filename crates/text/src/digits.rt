@@ -5,7 +5,7 @@ ghost use Prim.Native.Nat.{_-_, _*_, _/_, _%_, _≤_, _<_};
 ghost use lib.ListN.{length};
 ghost use Rattle.text.specs.Numerals.{numeral, mostDigits, decimal, hex};
 ghost use Rattle.text.specs.Numerals.{glyph as Numerals·glyph};
-ghost use Rattle.text.specs.Lent.{Says, Spelled, IsPairs, HasRoom, Stands};
+ghost use Rattle.text.specs.Lent.{Says, Spelled, IsPairs, IsWidth, HasRoom, Stands};
 
 // As many as 64 bits can have in a base of 10 or more.
 pub const MOST_DIGITS: usize = 20;
@@ -273,6 +273,12 @@ pub const PAIRS: [u16; 256] = [
     0x6666,
 ];
 
+// A number of hexadecimal digits, and the largest number that has as many.
+pub struct Width {
+    pub digits: usize,
+    pub largest: u64,
+}
+
 pub fn glyph(d: u64) -> u8
     requires { ⌜ d < 16 ⌝ }
     ensures { λ r. ⌜ r ≡ Numerals·glyph d ⌝ }
@@ -389,4 +395,46 @@ pub fn put_hex(out: &mut [u8], at: usize, pairs: &[u16; 256], n: u64) -> usize
     ensures { λ r. ⌜ Says out at r (hex n) ⌝ }
 {
     put_digits(out, at, pairs, 16, n)
+}
+
+pub fn one_digit() -> Width
+    ensures { λ r. ⌜ IsWidth r × (r .digits ≡ 1) ⌝ }
+{
+    Width {
+        digits: 1,
+        largest: 15,
+    }
+}
+
+// The width of n, counted on from one that is no larger: of numbers that grow, most have as many digits as the one before.
+pub fn widen(width: Width, n: u64) -> Width
+    requires { ⌜ IsWidth width × (width .digits ≤ length (hex n)) ⌝ }
+    ensures { λ r. ⌜ IsWidth r × (r .digits ≡ length (hex n)) ⌝ }
+{
+    let mut digits = width.digits;
+    let mut largest = width.largest;
+    while largest < n {
+        largest = largest * 16 + 15;
+        digits += 1;
+    }
+    Width {
+        digits: digits,
+        largest: largest,
+    }
+}
+
+// In hexadecimal, where it is known how many digits there are.
+pub fn put_hex_counted(
+    out: &mut [u8],
+    at: usize,
+    pairs: &[u16; 256],
+    digits: usize,
+    n: u64,
+) -> usize
+    requires { ⌜ IsPairs pairs × ((digits ≡ length (hex n)) × HasRoom out at digits) ⌝ }
+    ensures { λ r. ⌜ Says out at r (hex n) ⌝ }
+{
+    let end = at + digits;
+    put_ending(out, end, pairs, 16, n);
+    end
 }

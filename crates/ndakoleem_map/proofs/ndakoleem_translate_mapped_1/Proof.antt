@@ -46,8 +46,9 @@ returns : tie.Need-returns
 returns c =
     let told = c .before .before .before .refusal .given .1 in
     let done = c .before .before .before .before .before .before .before .before .before .before .before .before .before .before .before .before .before .before .before in
-    let bytes = c .before .before .before .before .before .before .before .before .before .before .before .before .before .before .before .before .before .before .before .before .before .before .before .before .before .before .before .before .before .before .before .before .before .before .before .before .shared-slice-known .given in
-    let addresses = c .before .before .before .before .before .before .before .before .before .before .before .before .before .before .before .before .before .before .before .before .before .before .before .before .before .before .before .before .before .before .before .before .before .before .shared-slice-known3 .given in
+    let lists = done .before .before .before .before .before .before .before .before .before .before .before .before .before .before .before in
+    let bytes = lists .before .before .shared-slice-known .given in
+    let addresses = lists .shared-slice-known3 .given in
     exported-map _ (record { bytes = λ k. omega (arith, bytes k); addresses = λ k. omega (arith, addresses k) }) _
     (done .translate-mapped .ensures) (rw told (c .before .number-of .ensures)) (rw told (c .slot-of .ensures)) (rw told refl) (rw told refl) (rw told refl)
 
@@ -76,8 +77,9 @@ returns-2 : tie.Need-returns-2
 returns-2 c =
     let told = c .before .length .given .1 in
     let done = c .before .before .before .before .before .before .before .before .before .before .before .before .before .before .before .before .before in
-    let bytes = c .before .before .before .before .before .before .before .before .before .before .before .before .before .before .before .before .before .before .before .before .before .before .before .before .before .before .before .before .before .before .before .before .before .before .shared-slice-known .given in
-    let addresses = c .before .before .before .before .before .before .before .before .before .before .before .before .before .before .before .before .before .before .before .before .before .before .before .before .before .before .before .before .before .before .before .before .shared-slice-known3 .given in
+    let lists = done .before .before .before .before .before .before .before .before .before .before .before .before .before .before .before in
+    let bytes = lists .before .before .shared-slice-known .given in
+    let addresses = lists .shared-slice-known3 .given in
     exported-map _ (record { bytes = λ k. omega (arith, bytes k); addresses = λ k. omega (arith, addresses k) }) _
     (done .translate-mapped .ensures) (rw told refl) (rw told refl) (rw told refl) (rw told refl) (rw told refl)
 

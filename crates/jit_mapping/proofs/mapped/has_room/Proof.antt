@@ -1,8 +1,6 @@
 use Rattle.jit_mapping.proofs.JudgedLaws.{room-sure}
 use Rattle.jit.specs.Lent.{filterIn}
-use mathlib.Core.Path.{refl, sym}
-use native.Mathlib.Omega.{arith}
-use borrow.Author.Tests.{le-leb}
+use mathlib.Core.Path.{refl}
 use Rattle.jit_mapping.proofs.RoomLaws.{walk-most}
 use borrow.Author.Needs.{needs}
 use Rattle.jit_mapping.proofs.mapped.has_room.Statement.{statement}

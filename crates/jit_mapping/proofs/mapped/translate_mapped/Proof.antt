@@ -33,8 +33,11 @@ enum-told-2 c = search needs
 write-mapped-requires : tie.Need-write-mapped-requires
 unfolding numbers kindOf
 write-mapped-requires c κs =
-    let decided = good (c .before .before .before .before .before .before .before .before .before .before .before .before .before .before .decide-in .ensures) (c .before .before .before .before .before .before .before .before .before .before .before .before .enum-told .given .1) in
-    (refl, (decided, sym (c .before .before .before .before .before .before .before .before .before .before .judge-map .ensures) ∙ c .before .before .before .before .before .before .before .before .enum-told2 .given .1))
+    let fits = c .before .before .before .before .before .before .before .before in
+    let judged = fits .before .before in
+    let accepted = judged .before .before in
+    let decided = good (accepted .before .before .decide-in .ensures) (accepted .enum-told .given .1) in
+    (refl, (decided, sym (judged .judge-map .ensures) ∙ fits .enum-told2 .given .1))
 
 returns : tie.Need-returns
 returns c =
@@ -43,8 +46,10 @@ returns c =
 
 returns-2 : tie.Need-returns-2
 returns-2 c =
-    let decided = good (c .before .before .before .before .before .before .before .decide-in .ensures) (c .before .before .before .before .before .enum-told .given .1) in
-    refuses (not-fitting decided _ _ (sym (c .before .before .before .judge-map .ensures) ∙ c .before .refusal2 .given .1))
+    let judged = c .before .before .before in
+    let accepted = judged .before .before in
+    let decided = good (accepted .before .before .decide-in .ensures) (accepted .enum-told .given .1) in
+    refuses (not-fitting decided _ _ (sym (judged .judge-map .ensures) ∙ c .before .refusal2 .given .1))
 
 same-length : tie.Need-same-length
 same-length c = search needs

@@ -13,14 +13,17 @@ enum-known-length c = search needs
 
 sub-exit : tie.Need-sub-exit
 sub-exit c =
-    let start = c .before .before .before .before .before .before .before .before .before .before .before .before .before .before .before .before .before .before .before .before .before .before .before .before .before .before .before .before .before .before .before .before in
-    omega (arith, long-enough (start .pre .1 .0) (rw (c .before .length .given .1) at (c .before .before .before .before .before .before .before .before .before .before .before .before .before .before .before .write-page .ensures .0)))
+    let wrote = c .before .before .before .before .before .before .before .before .before .before .before .before .before .before .before in
+    let start = wrote .before .before .before .before .before .before .before .before .before .before .before .before .before .before .before .before .before in
+    omega (arith, long-enough (start .pre .1 .0) (rw (c .before .length .given .1) at (wrote .write-page .ensures .0)))
 
 write-map-requires : tie.Need-write-map-requires
 write-map-requires c κs =
-    let start = c .before .before .before .before .before .before .before .before .before .before .before .before .before .before .before .before .before .before .before .before .before .before .before .before .before .before .before .before .before .before .before .before .before .before in
-    let written = rw (c .before .before .before .length .given .1) at (c .before .before .before .before .before .before .before .before .before .before .before .before .before .before .before .before .before .write-page .ensures .0) in
-    with-room (start .pre .1 .0) (start .args .base) _ (start .pre .1 .1) _ (written .locations) refl (answered written .0) (c .before .before .before .before .before .before .before .before .before .before .before .before .before .before .before .before .before .write-page .kept .1 .1 .1 .1 .1 .1 .1 .0)
+    let wrote = c .before .before .before .before .before .before .before .before .before .before .before .before .before .before .before .before .before in
+    let start = wrote .before .before .before .before .before .before .before .before .before .before .before .before .before .before .before .before .before in
+    let written = rw (c .before .before .before .length .given .1) at (wrote .write-page .ensures .0) in
+    let kept = wrote .write-page .kept .1 .1 .1 .1 .1 .1 .1 .0 in
+    with-room (start .pre .1 .0) (start .args .base) _ (start .pre .1 .1) _ (written .locations) refl (answered written .0) kept
 
 enum-known-refusal : tie.Need-enum-known-refusal
 enum-known-refusal c = search needs
@@ -48,11 +51,13 @@ same-length-7 c = search needs
 
 returns : tie.Need-returns
 returns c =
-    let start = c .before .before .before .before .before .before .before .before .before .before .before .before .before .before .before .before .before .before .before .before .before .before .before .before .before .before .before .before .before .before .before .before .before .before .before .before .before in
-    let told = c .before .before .before .before .before .before .length .given .1 in
-    let wrote = c .before .before .before .before .before .before .before .before .before .before .before .before .before .before .before .before .before .before .before .before .write-page .ensures in
-    let written = rw told at (wrote .0) in
-    maps (start .pre .1 .0) (start .args .base) _ (start .pre .1 .1) _ (written .locations) refl refl written (wrote .1) (c .before .before .write-map .ensures)
+    let told = c .before .before .before .before .before .before in
+    let wrote = told .before .before .before .before .before .before .before .before .before .before .before .before .before .before in
+    let start = wrote .before .before .before .before .before .before .before .before .before .before .before .before .before .before .before .before .before in
+    let left = wrote .write-page .ensures in
+    let written = rw (told .length .given .1) at (left .0) in
+    let said = c .before .before .write-map .ensures in
+    maps (start .pre .1 .0) (start .args .base) _ (start .pre .1 .1) _ (written .locations) refl refl written (left .1) said
 
 same-length-8 : tie.Need-same-length-8
 same-length-8 c = search needs
@@ -74,8 +79,9 @@ same-length-13 c = search needs
 
 returns-2 : tie.Need-returns-2
 returns-2 c =
-    let start = c .before .before .before .before .before .before .before .before .before .before .before .before .before .before .before .before .before .before .before .before .before .before .before .before .before .before .before .before .before .before .before .before in
-    never (start .pre .1 .0) (rw (c .before .refusal .given .1) at (c .before .before .before .before .before .before .before .before .before .before .before .before .before .before .before .write-page .ensures .0))
+    let wrote = c .before .before .before .before .before .before .before .before .before .before .before .before .before .before .before in
+    let start = wrote .before .before .before .before .before .before .before .before .before .before .before .before .before .before .before .before .before in
+    never (start .pre .1 .0) (rw (c .before .refusal .given .1) at (wrote .write-page .ensures .0))
 
 pub write-mapped-spec : {M : Type 1} → statement M
 write-mapped-spec =

@@ -32,21 +32,29 @@ measure-slot-requires c κs =
     ((pre .0 .0, pre .0 .1 .1 .1 .1), (refl, (c .if1 .taken, omega (arith, pre .0 .1 .0))))
 
 add-begins : tie.Need-add-begins Inv-loop μ-loop
-add-begins c = omega (arith, low (c .before .before .before .loop .inv) (c .before .before .before .before .before .before .before .before .pre .1))
+add-begins c =
+    let looped = c .before .before .before in
+    omega (arith, low (looped .loop .inv) (looped .before .before .before .before .before .pre .1))
 
 line-length-requires-2 : tie.Need-line-length-requires-2 Inv-loop μ-loop
 line-length-requires-2 c κs = search needs
 
 add-length : tie.Need-add-length Inv-loop μ-loop
 add-length c =
-    let start = c .before .before .before .before .before .before .before .before .before in
-    omega (arith, c .line-length2 .ensures .1, c .before .before .before .before .loop .inv .few, c .before .before .if1 .taken, start .pre .0 .1 .0)
+    let looped = c .before .before .before .before in
+    let slots = looped .before .before .before .before .before .pre .0 .1 .0 in
+    omega (arith, c .line-length2 .ensures .1, looped .loop .inv .few, c .before .before .if1 .taken, slots)
 
 add-t22 : tie.Need-add-t22 Inv-loop μ-loop
-add-t22 c = omega (arith, c .before .before .before .before .before .before .loop .inv .sofar .room, c .before .before .before .before .before .before .before .before .before .before .before .pre .0 .1 .1 .0, c .before .before .before .measure-slot .ensures .1)
+add-t22 c =
+    let looped = c .before .before .before .before .before .before in
+    let room = looped .before .before .before .before .before .pre .0 .1 .1 .0 in
+    omega (arith, looped .loop .inv .sofar .room, room, c .before .before .before .measure-slot .ensures .1)
 
 behind-requires : tie.Need-behind-requires Inv-loop μ-loop
-behind-requires c κs = omega (arith, c .before .before .before .before .before .before .before .before .before .before .before .pre .0 .1 .0, c .before .before .before .before .if1 .taken)
+behind-requires c κs =
+    let tested = c .before .before .before .before in
+    omega (arith, tested .before .before .before .before .before .before .before .pre .0 .1 .0, tested .if1 .taken)
 
 loop-less : tie.Need-loop-less Inv-loop μ-loop
 loop-less c =
@@ -55,28 +63,35 @@ loop-less c =
 
 loop-again : tie.Need-loop-again Inv-loop μ-loop
 loop-again c =
-    let start = c .before .before .before .before .before .before .before .before .before .before .before .before in
-    let looped = c .before .before .before .before .before .before .before .loop in
-    let seen = c .before .before .before .before .measure-slot in
-    let inside : 8 * looped .slot .number < length (now (start .args .prog)) = omega (arith, c .before .before .before .before .before .if1 .taken) in
-    let went = taken (looped .inv) (start .pre .1) (seen .result) inside (seen .ensures .0) in
+    let measured = c .before .before .before .before in
+    let tested = measured .before in
+    let looped = tested .before .before in
+    let start = looped .before .before .before .before .before in
+    let seen = measured .measure-slot in
+    let inside : 8 * looped .loop .slot .number < length (now (start .args .prog)) = omega (arith, tested .if1 .taken) in
+    let went = taken (looped .loop .inv) (start .pre .1) (seen .result) inside (seen .ensures .0) in
     let line = c .before .before .before .line-length2 .ensures in
-    sizing (looped .inv) (start .pre .1) inside went (line .0) (line .1) (c .behind .ensures)
+    sizing (looped .loop .inv) (start .pre .1) inside went (line .0) (line .1) (c .behind .ensures)
 
 add-exit : tie.Need-add-exit Inv-loop μ-loop
-add-exit c = omega (arith, low (c .before .before .loop .inv) (c .before .before .before .before .before .before .before .pre .1))
+add-exit c =
+    let looped = c .before .before in
+    omega (arith, low (looped .loop .inv) (looped .before .before .before .before .before .pre .1))
 
 line-length-requires-3 : tie.Need-line-length-requires-3 Inv-loop μ-loop
 line-length-requires-3 c κs = search needs
 
 add-result : tie.Need-add-result Inv-loop μ-loop
 add-result c =
-    omega (arith, c .line-length3 .ensures .1, c .before .before .before .loop .inv .few, c .before .before .before .loop .inv .sofar .inside, c .before .before .before .before .before .before .before .before .pre .0 .1 .0)
+    let looped = c .before .before .before in
+    let slots = looped .before .before .before .before .before .pre .0 .1 .0 in
+    omega (arith, c .line-length3 .ensures .1, looped .loop .inv .few, looped .loop .inv .sofar .inside, slots)
 
 returns : tie.Need-returns Inv-loop μ-loop
 returns c =
-    let start = c .before .before .before .before .before .before .before .before in
-    sized (c .before .before .before .loop .inv) (start .pre .1) (c .before .if1 .left) (c .line-length3 .ensures .0)
+    let looped = c .before .before .before in
+    let start = looped .before .before .before .before .before in
+    sized (looped .loop .inv) (start .pre .1) (c .before .if1 .left) (c .line-length3 .ensures .0)
 
 pub text-length-spec : {M : Type 1} → statement M
 text-length-spec =

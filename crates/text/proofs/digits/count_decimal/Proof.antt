@@ -2,15 +2,10 @@ use Rattle.text.specs.Numerals.{decimal}
 use borrow.Author.Needs.{needs}
 use Rattle.text.proofs.digits.count_decimal.Statement.{statement}
 use Rattle.text.proofs.digits.count_decimal.Tie as tie
-use Rattle.text.proofs.digits.count_decimal.Reads as reads
-use Rattle.text.proofs.digits.count_decimal.Lts as lts
-use Rattle.text.proofs.digits.count_digits.Reads as count-digits-reads
 
--- src/digits.rt:355:5
 count-digits-requires : tie.Need-count-digits-requires
 count-digits-requires c κs = search needs
 
--- src/digits.rt:352:1
 returns : tie.Need-returns
 unfolding decimal
 returns c = c .count-digits .ensures

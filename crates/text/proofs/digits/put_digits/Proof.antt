@@ -1,8 +1,6 @@
-use mathlib.Core.Path.{refl, sym, ap}
-use mathlib.Core.List.{[], _∷_}
+use mathlib.Core.Path.{sym, ap}
 use lib.ListN.{length}
 use native.Mathlib.Omega.{arith}
-use Rattle.text.specs.Numerals.{glyph}
 use Rattle.text.proofs.SaysLaws.{same}
 use Rattle.text.proofs.NumeralLaws.{one-digit}
 use Rattle.text.proofs.DigitsLaws.{said}

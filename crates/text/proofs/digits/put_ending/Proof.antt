@@ -1,13 +1,8 @@
-use native.Mathlib.Nat.{mod-lt}
 use mathlib.Core.Path.{_∙_}
 use Rattle.text.proofs.DigitsLaws.{square-some, both-small, square-small, square-below, square-above, two-left, one-left, last-two, less-twice, ending, ended-1, ended-2}
-use Prim.Native.Nat.{_+_, _-_, _≤_}
-use mathlib.Core.List.{List}
-use mathlib.Core.Path.{_≡_, refl}
-use lib.ListN.{length}
-use lib.Seq.{sets}
+use Prim.Native.Nat.{_-_}
+use mathlib.Core.Path.{refl}
 use native.Mathlib.Omega.{arith}
-use Rattle.text.specs.Numerals.{numeral, mostDigits}
 use Rattle.text.proofs.DigitsLaws.{Ending}
 use borrow.Author.Needs.{needs}
 use Rattle.text.proofs.digits.put_ending.Statement.{statement}
@@ -26,7 +21,10 @@ loop-holds : tie.Need-loop-holds Inv-loop μ-loop
 loop-holds c = record { below = omega arith; kept = refl; inside = omega arith; place = omega (arith, c .before .pre .1 .0); leads = λ l′ q. q }
 
 sub-left : tie.Need-sub-left Inv-loop μ-loop
-sub-left c = let start = c .before .before .before in omega (arith, two-left (start .pre .0 .1 .0) (c .before .loop .inv) (start .pre .0 .1 .1 .1) (square-above _ (start .pre .0 .1 .0) _ (c .loop-test .taken)))
+sub-left c =
+    let start = c .before .before .before in
+    let spelled = start .pre .0 .1 in
+    omega (arith, two-left (spelled .0) (c .before .loop .inv) (spelled .1 .1) (square-above _ (spelled .0) _ (c .loop-test .taken)))
 
 rem-put-pair : tie.Need-rem-put-pair Inv-loop μ-loop
 rem-put-pair c =
@@ -50,27 +48,43 @@ div-rest-2 : tie.Need-div-rest-2 Inv-loop μ-loop
 div-rest-2 c = search needs
 
 loop-less : tie.Need-loop-less Inv-loop μ-loop
-loop-less c = let start = c .before .before .before .before .before .before .before in less-twice _ (start .pre .0 .1 .0) _ (square-above _ (start .pre .0 .1 .0) _ (c .before .before .before .before .loop-test .taken))
+loop-less c =
+    let tested = c .before .before .before .before in
+    let more = tested .before .before .before .pre .0 .1 .0 in
+    less-twice _ more _ (square-above _ more _ (tested .loop-test .taken))
 
 loop-again : tie.Need-loop-again Inv-loop μ-loop
-loop-again c = let start = c .before .before .before .before .before .before .before in ending (start .pre .0 .1 .0) (c .before .before .before .before .before .loop .inv) (start .pre .0 .1 .1 .1) (square-above _ (start .pre .0 .1 .0) _ (c .before .before .before .before .loop-test .taken)) (c .before .before .put-pair .ensures)
+loop-again c =
+    let tested = c .before .before .before .before in
+    let looped = tested .before in
+    let spelled = looped .before .before .pre .0 .1 in
+    let above = square-above _ (spelled .0) _ (tested .loop-test .taken) in
+    ending (spelled .0) (looped .loop .inv) (spelled .1 .1) above (c .before .before .put-pair .ensures)
 
 sub-put-single : tie.Need-sub-put-single Inv-loop μ-loop
-sub-put-single c = let start = c .before .before .before .before .before in omega (arith, one-left (start .pre .0 .1 .0) (c .before .before .before .loop .inv))
+sub-put-single c =
+    let looped = c .before .before .before in
+    omega (arith, one-left (looped .before .before .pre .0 .1 .0) (looped .loop .inv))
 
 put-single-requires : tie.Need-put-single-requires Inv-loop μ-loop
 put-single-requires c κs =
-    let start = c .before .before .before .before .before in
     let looped = c .before .before .before .loop in
-    (start .pre .0 .0, (omega (arith, c .before .if1 .taken, start .pre .0 .1 .1 .0), omega (arith, one-left (start .pre .0 .1 .0) (looped .inv), looped .inv .inside, looped .inv .kept, start .pre .1 .1)))
+    let start = c .before .before .before .before .before in
+    let spelled = start .pre .0 .1 in
+    let one = one-left (spelled .0) (looped .inv) in (
+      start .pre .0 .0,
+      (omega (arith, c .before .if1 .taken, spelled .1 .0), omega (arith, one, looped .inv .inside, looped .inv .kept, start .pre .1 .1)),
+    )
 
 same-length : tie.Need-same-length Inv-loop μ-loop
 same-length c = search needs
 
 returns : tie.Need-returns Inv-loop μ-loop
 returns c =
-    let start = c .before .before .before .before .before .before .before .before in
-    c .before .before .put-single .ensures ∙ ended-1 (start .pre .0 .1 .0) (c .before .before .before .before .before .before .loop .inv) (start .pre .0 .1 .1 .1) (c .before .before .before .before .if1 .taken)
+    let tested = c .before .before .before .before in
+    let looped = tested .before .before in
+    let spelled = looped .before .before .pre .0 .1 in
+    c .before .before .put-single .ensures ∙ ended-1 (spelled .0) (looped .loop .inv) (spelled .1 .1) (tested .if1 .taken)
 
 sub-put-pair : tie.Need-sub-put-pair Inv-loop μ-loop
 sub-put-pair c =
@@ -91,7 +105,12 @@ same-length-2 : tie.Need-same-length-2 Inv-loop μ-loop
 same-length-2 c = search needs
 
 returns-2 : tie.Need-returns-2 Inv-loop μ-loop
-returns-2 c = let start = c .before .before .before .before .before .before .before .before in c .before .before .put-pair2 .ensures ∙ ended-2 (start .pre .0 .1 .0) (c .before .before .before .before .before .before .loop .inv) (start .pre .0 .1 .1 .1) (c .before .before .before .before .if1 .left) (square-below _ (start .pre .0 .1 .0) _ (c .before .before .before .before .before .loop-test .left))
+returns-2 c =
+    let tested = c .before .before .before .before in
+    let looped = tested .before .before in
+    let spelled = looped .before .before .pre .0 .1 in
+    let below = square-below _ (spelled .0) _ (tested .before .loop-test .left) in
+    c .before .before .put-pair2 .ensures ∙ ended-2 (spelled .0) (looped .loop .inv) (spelled .1 .1) (tested .if1 .left) below
 
 pub put-ending-spec : {M : Type 1} → statement M
 put-ending-spec =
