@@ -1,4 +1,4 @@
--- The laws of specs/Mapped.antt: it admits one answer only; how `judge_map` settles it, and how the writing functions meet it.
+-- The laws of specs/Mapped.antt: it admits one answer only; how `decide_mapped` settles it, and how the writing functions meet it.
 use mathlib.Core.Path.{_≡_, _∙_, refl, ap, sym}
 use mathlib.Core.Bool.{Bool, true, false}
 use mathlib.Core.List.{List, _++_, append-assoc}
@@ -37,12 +37,13 @@ use Rattle.jit_translate.proofs.DecidedLaws.{Ready, ready}
 use Rattle.jit_mapping.specs.declared.Answer.{Answer}
 use Rattle.jit_mapping.specs.declared.Answer.the-variants.{Accepted, Refused}
 use Rattle.jit_mapping.specs.declared.Refusal.{Refusal}
-use Rattle.jit_mapping.specs.declared.Refusal.the-variants.{BaseTooHigh, TextTooShort}
+use Rattle.jit_mapping.specs.declared.Refusal.the-variants.{Translation, BaseTooHigh, TextTooShort}
 use Rattle.jit_mapping.specs.declared.mapped.Fit.{Fit}
 use Rattle.jit_mapping.specs.declared.mapped.Fit.the-variants.{Fits, Not}
 use Rattle.jit_mapping.specs.Mapped.{mapText, Map, no, yes, mapIn, mapOf, answerOf, textIn, Buffers, Mapped}
 use Rattle.jit_mapping.specs.Rows.{closedTable, tableLines, Rising}
 use Rattle.jit_mapping.specs.Walked.{walkLines, fitAt, Judging}
+use Rattle.jit_mapping.specs.Passes.{fitIn}
 use Rattle.jit_mapping.proofs.RowsLaws.{table-lines, rising-starts}
 use Rattle.jit_mapping.proofs.WalkedLaws.{page-lines}
 
@@ -141,8 +142,13 @@ module _ {x : Inputs} (good : Decided x Good) where
   pub map-is : (base room : ℕ) → mapOf x base room ≡ byFit (fitAt base room start (blocksIn (walkOf x))) (mapText x base)
   map-is base room = rw (translation-is, text-is base, blocks-are, code-is) (tested base room (textOf (walkLines base start bs)))
 
-  pub not-fitting : (base room : ℕ) {r : Refusal} → fitAt base room start (blocksIn (walkOf x)) ≡ Not r → mapOf x base room ≡ no r
-  not-fitting base room e = map-is base room ∙ ap (λ (f : Fit). byFit f (mapText x base)) e
+  -- where `translate` accepts, the map's own tests decide
+  pub judged : (base room : ℕ) → fitAt base room start (blocksIn (walkOf x)) ≡ fitIn (mapOf x base room)
+  judged base room = by (fitAt base room start (blocksIn (walkOf x))) ∙ sym (ap fitIn (map-is base room))
+    where
+      by : (f : Fit) → f ≡ fitIn (byFit f (mapText x base))
+      by Fits = refl
+      by (Not r) = refl
 
   module _ (base room : ℕ) (fit : fitAt base room start (blocksIn (walkOf x)) ≡ Fits) where
     pub map-fits : mapOf x base room ≡ yes (mapText x base)
@@ -224,6 +230,27 @@ module _ {x : Inputs} (good : Decided x Good) where
         where
           counted : {L J T a b d : ℕ} → L ≡ a → J ≡ b → T ≡ d → Accepted L J T ≡ Accepted a b d
           counted e f g = rw (e, f, g)
+
+-- where there is none, for what reason; where there is one, `translate` accepts, and it fits
+pub no-map : (x : Inputs) (base room : ℕ) {r : Refusal} → fitIn (mapOf x base room) ≡ Not r → mapOf x base room ≡ no r
+no-map x base room {r} e = by (mapOf x base room) e
+  where
+    by : (m : Map) → fitIn m ≡ Not r → m ≡ no r
+    by (no q) f = cc
+    by (yes text) f = let z : _≡_ {A = ℕ} 0 1 = cc in absurd (omega arith)
+
+pub a-map : (x : Inputs) (base room : ℕ) → fitIn (mapOf x base room) ≡ Fits
+    → Decided x Good × (fitAt base room (size (prologue (x .flags))) (blocksIn (walkOf x)) ≡ Fits)
+a-map x base room e = by (translationOf x) refl
+  where
+    by : (o : Outcome) → translationOf x ≡ o → Decided x Good × (fitAt base room (size (prologue (x .flags))) (blocksIn (walkOf x)) ≡ Fits)
+    by (translation.no r) q =
+        let f : Not (Translation r) ≡ Fits = ap (λ (o : Outcome). fitIn (mapIn o (mapText x base) base room)) (sym q) ∙ e in
+        let z : _≡_ {A = ℕ} 0 1 = cc in
+        absurd (omega arith)
+    by (translation.yes c l f t) q =
+        let good : Decided x Good = record { verdict = sym (ap verdictIn q) } in
+        (good, judged good base room ∙ e)
 
 -- a translation that is good is not refused
 pub never : {A : Type 0} {x : Inputs} (good : Decided x Good) {c c₁ l l₁ f f₁ t t₁ : List ℕ} {r : Untranslated}

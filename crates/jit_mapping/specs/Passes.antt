@@ -21,8 +21,9 @@ use Rattle.jit.specs.Passes.{walked, walkFrom}
 use Rattle.jit.specs.Frame.{prologue}
 use Rattle.jit_walk.specs.Acceptable.{Acceptable}
 use Rattle.jit_mapping.specs.declared.mapped.Fit.{Fit}
-use Rattle.jit_mapping.specs.declared.mapped.Fit.the-variants.{Fits}
+use Rattle.jit_mapping.specs.declared.mapped.Fit.the-variants.{Fits, Not}
 use Rattle.jit_mapping.specs.declared.write.Open.{Open}
+use Rattle.jit_mapping.specs.Mapped.{Map, no, yes}
 use Rattle.jit_mapping.specs.Walked as W
 use Rattle.jit_mapping.specs.Rows as R
 use Rattle.jit_mapping.specs.Rows.{Rising, closedTable, tableLines}
@@ -43,12 +44,16 @@ isLow filter page start base = ltb (base + codeLength filter page start) (2 ^ 64
 abbrev pub textLength : Filter → (page : ℕ) → (start : Position) → (base : ℕ) → ℕ
 textLength filter page start base = length (textOf (W.walkLines base (start .offset) (blocksIn (walked filter page start))))
 
--- whether the map of a program that is accepted fits
+-- whether the map of a program that is accepted fits; and of any program, whether there is a map
 abbrev pub Judging : Filter → Flags → (page : ℕ) → Type 0
 Judging filter flags page = W.Judging filter flags page
 
 abbrev pub fitOf : Filter → Flags → (page base room : ℕ) → Fit
 fitOf filter flags page base room = W.fitAt base room (size (prologue flags)) (blocksIn (walkFrom filter page (size (prologue flags))))
+
+abbrev pub fitIn : Map → Fit
+fitIn (no r) = Not r
+fitIn (yes text) = Fits
 
 abbrev pub Fitting : Filter → Flags → (code : Slice) → (base : ℕ) → (text : Slice) → Type 0
 Fitting filter flags code base text = fitOf filter flags (length (now code)) base (length (now text)) ≡ Fits

@@ -1,5 +1,5 @@
-// The translator that also writes the page's map. It is `decide` of the translator, and whether the map has its addresses and its room, which
-// write nothing; and then the page and the map, which refuse nothing.
+// The translator that also writes the page's map. It is `decide_mapped`, the translator's `decide` and whether the map has its addresses and its
+// room, which writes nothing; and then `write_mapped`, the page and the map, which refuses nothing.
 ghost use mathlib.Core.Path.{_≡_};
 ghost use Prim.Native.Nat.{_≤_};
 ghost use lib.Dec.{leb};
@@ -10,8 +10,9 @@ ghost use Rattle.jit.specs.Room.{longestPrologue};
 ghost use Rattle.jit_walk.specs.Lent.{IsTable};
 ghost use Rattle.jit_walk.specs.declared.verdict.Verdict.the-variants.{Good};
 ghost use Rattle.jit_translate.specs.Translated.{Decided};
-ghost use Rattle.jit_translate.specs.Lent.{inputs, asked};
-ghost use Rattle.jit_mapping.specs.Passes.{Walked, Accepted, codeLength, textLength, isLow, Judging, fitOf, Fitting};
+ghost use Rattle.jit_translate.specs.Lent.{sized, inputs, asked};
+ghost use Rattle.jit_mapping.specs.Mapped.{mapOf};
+ghost use Rattle.jit_mapping.specs.Passes.{Walked, Accepted, codeLength, textLength, isLow, Judging, fitOf, fitIn, Fitting};
 ghost use Rattle.jit_mapping.specs.Lent.{Mapped};
 use crate::Answer;
 use crate::LONGEST_LINE;
@@ -124,6 +125,45 @@ fn judge_map(
     Fit::Fits
 }
 
+// Whether `translate` accepts, and then whether there is a map; the lengths are those of what is lent. It writes nothing.
+fn decide_mapped(
+    numbers: &[u8; 256],
+    prog: &[u8],
+    flags: Flags,
+    mode: Mode,
+    ids: &[u32],
+    addresses: &[u64],
+    page: usize,
+    locations: usize,
+    fields: usize,
+    targets: usize,
+    kinds: usize,
+    makers: usize,
+    base: u64,
+    room: usize,
+) -> Fit
+    requires { ⌜ IsTable numbers ⌝ }
+    ensures { λ r. ⌜ r ≡ fitIn (mapOf (sized (filterOf prog mode ids addresses) flags page locations fields targets kinds makers) base room) ⌝ }
+{
+    match translate::decide_in(
+        numbers,
+        prog,
+        flags,
+        mode,
+        ids,
+        addresses,
+        page,
+        locations,
+        fields,
+        targets,
+        kinds,
+        makers,
+    ) {
+        Verdict::Not(refusal) => Fit::Not(Refusal::Translation(refusal)),
+        Verdict::Good => judge_map(numbers, prog, flags, mode, ids, addresses, page, base, room),
+    }
+}
+
 // The page, the tables and the map of a program that is accepted, where the map fits.
 fn write_mapped(
     numbers: &[u8; 256],
@@ -196,53 +236,38 @@ pub fn translate_mapped(
         code locations fields targets kinds makers text r ⌝ }
 {
     let numbers = kind::KINDS;
-    let page = code.len();
-    let room = text.len();
-    match translate::decide_in(
+    match decide_mapped(
         &numbers,
         prog,
         flags,
         mode,
         ids,
         addresses,
-        page,
+        code.len(),
         locations.len(),
         fields.len(),
         targets.len(),
         kinds.len(),
         makers.len(),
+        base,
+        text.len(),
     ) {
-        Verdict::Not(refusal) => Answer::Refused(Refusal::Translation(refusal)),
-        Verdict::Good => {
-            match judge_map(
-                &numbers,
-                prog,
-                flags,
-                mode,
-                ids,
-                addresses,
-                page,
-                base,
-                room,
-            ) {
-                Fit::Not(refusal) => Answer::Refused(refusal),
-                Fit::Fits => write_mapped(
-                    &numbers,
-                    prog,
-                    flags,
-                    mode,
-                    ids,
-                    addresses,
-                    code,
-                    locations,
-                    fields,
-                    targets,
-                    kinds,
-                    makers,
-                    base,
-                    text,
-                ),
-            }
-        }
+        Fit::Not(refusal) => Answer::Refused(refusal),
+        Fit::Fits => write_mapped(
+            &numbers,
+            prog,
+            flags,
+            mode,
+            ids,
+            addresses,
+            code,
+            locations,
+            fields,
+            targets,
+            kinds,
+            makers,
+            base,
+            text,
+        ),
     }
 }
