@@ -1,7 +1,7 @@
 """Runs a filter in the loader in C under perf, and looks what perf makes of the map that the loader writes. `exec-test/perf` starts it, and
 has the statuses.
 
-perf reads /tmp/perf-PID.map when it reports, and not while it records. The names that it gives are held to a reading of the map that is made
+perf reads the map's file when it reports, and not while it records. The names that it gives are held to a reading of the map that is made
 here: each sample whose address is in the page has to have the name of the line that covers it, and each sample with such a name has to be in
 the page. What the loader prints has to be what it prints without perf, without a map and once over the packets. Prints the event, the
 report's first lines, and in the last line how many samples and slots there are, and how many of them are named."""

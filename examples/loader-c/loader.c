@@ -7,7 +7,7 @@
  * --compact with compact constants. What the filter gives is the verdict: 0 turns the packet down, anything else keeps it. A filter is run as
  * it is: one that reads outside the packet or never ends takes the loader with it.
  *
- * --perf-map writes the page's map to /tmp/perf-PID.map ahead of the first packet, so that perf names the filter's slots; it stays there, for
+ * --perf-map writes the page's map where perf looks for it ahead of the first packet, so that perf names the filter's slots; it stays there, for
  * perf reads it afterwards. --times N runs the filter over all packets N times, and prints the verdicts of the first: so a profiler sees it. */
 #include <stdbool.h>
 #include <stdio.h>
@@ -68,7 +68,8 @@ static NDAKOLEEM_HELPER uint64_t mix(uint64_t a, uint64_t b, uint64_t c, uint64_
 static const uint32_t helper_ids[] = {1, 2};
 enum { HELPERS = sizeof helper_ids / sizeof helper_ids[0] };
 
-/* Where perf looks for it. What is there already may belong to somebody else, or be a link: it is not written to. */
+/* Where perf looks for it: the kernel's tools/perf/Documentation/jit-interface.txt fixes the name. What is there already may belong to
+ * somebody else, or be a link: it is not written to. */
 static void write_map(const char *map, size_t length) {
     char name[64];
     snprintf(name, sizeof name, "/tmp/perf-%ld.map", (long)getpid());

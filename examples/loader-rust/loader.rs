@@ -11,7 +11,7 @@
 //! anything else keeps it. A filter is run as it is: one that reads outside the
 //! packet or never ends takes the loader with it.
 //!
-//! --perf-map writes the page's map to /tmp/perf-PID.map ahead of the first
+//! --perf-map writes the page's map where perf looks for it ahead of the first
 //! packet, so that perf names the filter's slots; it stays there, for perf reads
 //! it afterwards. --times N runs the filter over all packets N times, and prints
 //! the verdicts of the first: so a profiler sees it.
@@ -73,8 +73,9 @@ extern "sysv64" fn mix(a: u64, b: u64, c: u64, d: u64, e: u64) -> u64 {
 ndakoleem::helper_entry!(is_subscribed_entry, is_subscribed);
 ndakoleem::helper_entry!(mix_entry, mix);
 
-/// Where perf looks for it. What is there already may belong to somebody else,
-/// or be a link: it is not written to.
+/// Where perf looks for it: the kernel's
+/// tools/perf/Documentation/jit-interface.txt fixes the name. What is there
+/// already may belong to somebody else, or be a link: it is not written to.
 fn write_map(map: &[u8]) -> Outcome<()> {
     let name = format!("/tmp/perf-{}.map", process::id());
     _ = fs::remove_file(&name);

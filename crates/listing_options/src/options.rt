@@ -3,7 +3,9 @@
 ghost use mathlib.Core.Path.{_≡_};
 ghost use Prim.Native.Nat.{_+_, _≤_};
 ghost use Rattle.jit.specs.Limits.{longestPage};
+ghost use Rattle.text.specs.Lent.{Says, given};
 ghost use Rattle.listing_options.specs.Options.{Held};
+ghost use Rattle.listing_options.specs.Help.{nameOf, complaint};
 use jit::Flags;
 use jit::LONGEST_PAGE;
 use jit::MOST_HELPERS;
@@ -18,12 +20,16 @@ use listing_arguments::mode_with;
 use listing_arguments::number_of;
 use listing_arguments::word_of;
 use text::form::put_form;
+use text::text::put_text;
 
 // One byte more than a page may have: a longer one is refused for it, however long it is.
 pub const LARGEST: usize = LONGEST_PAGE + 1;
 
 // A number and a word fit.
-const WORD: usize = 32;
+pub const WORD: usize = 32;
+
+// No complaint is longer: a word has at most 4096 bytes.
+pub const SENTENCE: usize = 4096 + 256;
 
 // Which program is asked.
 pub enum Program {
@@ -58,26 +64,28 @@ pub fn flags_of(options: Options) -> Flags
     }
 }
 
-fn write_name(program: Program) {
+fn put_name(line: &mut [u8], program: Program) -> usize
+    ensures { λ r. ⌜ Says line 0 r (nameOf program) ⌝ }
+{
     match program {
-        Program::Listing => {
-            io::write_all(STDERR_FILENO, b"listing: ");
-        }
-        Program::Map => {
-            io::write_all(STDERR_FILENO, b"map: ");
-        }
-        Program::Maps => {
-            io::write_all(STDERR_FILENO, b"maps: ");
-        }
+        Program::Listing => put_text(line, 0, b"listing: "),
+        Program::Map => put_text(line, 0, b"map: "),
+        Program::Maps => put_text(line, 0, b"maps: "),
     }
 }
 
-// What is wrong, and the word with which it is so.
-pub fn complain(program: Program, what: &[u8], word: &[u8]) {
-    write_name(program);
-    io::write_all(STDERR_FILENO, what);
-    io::write_all(STDERR_FILENO, word);
-    io::write_all(STDERR_FILENO, b" (--help explains the arguments)\n");
+// What is wrong, and the word with which it is so: a sentence, which is put into `line` and written to standard error.
+pub fn complain(line: &mut [u8], program: Program, what: &[u8], word: &[u8]) -> usize
+    ensures { λ r. ⌜ Says line 0 r (complaint program (given what) (given word)) ⌝ }
+{
+    let name = put_name(line, program);
+    let wrong = put_text(line, name, what);
+    let with = put_text(line, wrong, word);
+    let end = put_text(line, with, b" (--help explains the arguments)\n");
+    if end <= line.len() {
+        io::write_all(STDERR_FILENO, &line[..end]);
+    }
+    end
 }
 
 fn wronged(options: Options, what: &[u8], word: &[u8]) -> Options
@@ -85,7 +93,8 @@ fn wronged(options: Options, what: &[u8], word: &[u8]) -> Options
 {
     let program = options.program;
     let mut changed = options;
-    complain(program, what, word);
+    let mut line = [0u8; SENTENCE];
+    complain(&mut line, program, what, word);
     changed.wrong = true;
     changed
 }

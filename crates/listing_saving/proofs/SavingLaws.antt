@@ -1,7 +1,7 @@
 -- The laws of specs/Saving.antt: what is said of the flag is true of what was asked, and what cannot happen is not said.
 use mathlib.Core.Path.{_≡_, _∙_, refl, ap, sym}
 use mathlib.Core.Bool.{Bool, true, false, not, _&&_}
-use mathlib.Core.List.{List}
+use mathlib.Core.List.{List, [], _∷_}
 use Prim.Native.Nat.{ℕ, _+_, _*_, _-_, _/_, _≤_, _<_}
 use native.Mathlib.Omega.{arith}
 use lib.Dec.{leb, ltb, eqb}
@@ -22,7 +22,9 @@ use Rattle.jit_translate.specs.Lent.{sized}
 use Rattle.jit_translate.specs.Translated.{answerOf}
 use Rattle.jit_translate.specs.declared.translate.Answer.{Answer}
 use Rattle.jit_translate.specs.declared.translate.Answer.the-variants.{Accepted, Refused}
-use Rattle.listing_saving.specs.Saving.{turned, isSaid, entries, roomy}
+use Rattle.text.specs.Text.{Says}
+use Rattle.text.proofs.SaysLaws.{sets-out, then}
+use Rattle.listing_saving.specs.Saving.{turned, isSaid, listed, entries, roomy}
 
 -- the answer hangs on the lengths of what is lent alone
 pub by-lengths : (f : Filter) (g : Flags) {page size l₁ l₂ l₃ l₄ l₅ : ℕ} → page ≡ size → l₁ ≡ entries → l₂ ≡ entries → l₃ ≡ entries
@@ -92,3 +94,18 @@ only-for-room x n j r e f = by (eqb (numberOf r) 13) refl
     by false t =
         let g : translationOf (compactly x) ≡ no r = compact .refuses x r f (eqb-false _ _ t) in
         absurd (omega (arith, ap bytesOf (rw g at e)))
+
+-- The line and its newline: nothing where nothing is said, or nothing finds room.
+pub no-saving : {l l′ : List ℕ} {r : ℕ} (text : List ℕ) → r ≡ 0 → Says l l′ 0 r text → Says l l′ 0 0 (listed text)
+no-saving [] e p = rw e at p
+no-saving {l} (c ∷ cs) e p =
+    let small : length l ≤ 0 = omega (arith, e, p .next) in
+    record {
+      text = p .text ∙ (sets-out l (c ∷ cs) 0 small ∙ sym (sets-out l (listed (c ∷ cs)) 0 small));
+      next = omega (arith, small);
+    }
+
+pub a-saving : {l l₁ l₂ : List ℕ} {r₁ r₂ : ℕ} (text : List ℕ) → ¬ (r₁ ≡ 0) → Says l l₁ 0 r₁ text → Says l₁ l₂ r₁ r₂ (0x0a ∷ [])
+    → Says l l₂ 0 r₂ (listed text)
+a-saving [] f p q = absurd (f (omega (arith, p .next)))
+a-saving (c ∷ cs) f p q = then p q

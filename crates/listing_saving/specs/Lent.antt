@@ -20,3 +20,8 @@ otherAnswer prog flags mode ids addresses page =
 abbrev pub SaysSaving : (line prog : Lent) → Flags → Mode → (ids addresses : Lent) → (page : ℕ) → (own : Answer) → (r : ℕ) → Type 0
 SaysSaving line prog flags mode ids addresses page own r =
     Says line 0 r (S.savingOf (given prog) (mode .compact) own (otherAnswer prog flags mode ids addresses page))
+
+-- THE CONTRACT of `list_saving`
+abbrev pub ListsSaving : (line prog : Lent) → Flags → Mode → (ids addresses : Lent) → (page : ℕ) → (own : Answer) → (r : ℕ) → Type 0
+ListsSaving line prog flags mode ids addresses page own r =
+    Says line 0 r (S.listed (S.savingOf (given prog) (mode .compact) own (otherAnswer prog flags mode ids addresses page)))

@@ -56,6 +56,11 @@ isSaid compact (Refused r) = not compact && eqb (numberOf r) 13
 abbrev pub savingOf : (prog : List ℕ) → Bool → (own other : Answer) → List ℕ
 savingOf prog compact own other = pick (isSaid compact own) (lineOf prog compact own other) []
 
+-- a line has its newline; where nothing is said there is no line
+abbrev pub listed : List ℕ → List ℕ
+listed [] = []
+listed (c ∷ cs) = (c ∷ cs) ++ (0x0a ∷ [])
+
 -- What is asked, in tables that have room for every program.
 abbrev pub entries : ℕ
 entries = mostSlots + 1

@@ -4,7 +4,7 @@ ghost use Prim.Native.Nat.{_+_, _-_, _≤_};
 ghost use Rattle.jit.specs.Limits.{longestPage};
 ghost use Rattle.text.specs.Lent.{Says, given};
 ghost use Rattle.listing_saving.specs.Saving.{savedLine, fitsLine, acceptedLine, wayOf, refusedLine, lineOf, isSaid};
-ghost use Rattle.listing_saving.specs.Lent.{otherAnswer, SaysSaving};
+ghost use Rattle.listing_saving.specs.Lent.{otherAnswer, SaysSaving, ListsSaving};
 use jit::Flags;
 use jit::LONGEST_PAGE;
 use jit::MOST_SLOTS;
@@ -13,7 +13,6 @@ use jit::Refusal;
 use jit_translate::translate::Answer;
 use jit_translate::translate::translate;
 use libc::STDOUT_FILENO;
-use listing_lines::LINE;
 use listing_lines::write_line;
 use text::form::put_form;
 use text::text::put_text;
@@ -22,6 +21,8 @@ use text::text::put_text;
 const PAGE: usize = LONGEST_PAGE + 1;
 // An entry for each slot that a program may have, and one.
 const TABLE: usize = MOST_SLOTS + 1;
+// No line is longer.
+pub const LINE: usize = listing_lines::LINE;
 // No sentence of a refusal is longer.
 const SENTENCE: usize = 200;
 
@@ -194,8 +195,9 @@ fn place_of(own: Answer, reason: i32) -> i32 {
     }
 }
 
-// The line, written out.
+// The line with its newline at the start of `line`, and written out; nothing where nothing is said.
 pub fn list_saving(
+    line: &mut [u8],
     prog: &[u8],
     flags: Flags,
     mode: Mode,
@@ -204,12 +206,13 @@ pub fn list_saving(
     size: usize,
     own: Answer,
     reason: i32,
-)
+) -> usize
     requires { ⌜ size ≤ longestPage + 1 ⌝ }
+    ensures { λ r. ⌜ ListsSaving line prog flags mode ids addresses size own r ⌝ }
 {
-    let mut line = [0u8; LINE];
-    let end = put_saving(&mut line, prog, flags, mode, ids, addresses, size, own);
-    if 0 < end {
-        write_line(place_of(own, reason), &mut line, end);
+    let end = put_saving(line, prog, flags, mode, ids, addresses, size, own);
+    if end == 0 {
+        return 0;
     }
+    write_line(place_of(own, reason), line, end)
 }

@@ -8,6 +8,7 @@ use libc::STDERR_FILENO;
 use libc::STDOUT_FILENO;
 use listing_options::filter::INPUT;
 use listing_options::filter::read_filter;
+use listing_options::help::HELP;
 use listing_options::help::explain_options;
 use listing_options::options::LARGEST;
 use listing_options::options::Options;
@@ -29,7 +30,8 @@ fn explain() {
         STDOUT_FILENO,
         b"A refused filter shows its slots up to the refusal; the reason goes to standard error.\n",
     );
-    explain_options(Program::Listing);
+    let mut options = [0u8; HELP];
+    explain_options(&mut options, Program::Listing);
     io::write_all(
         STDOUT_FILENO,
         b"Numbers are decimal, or hexadecimal behind 0x.\n",
@@ -63,7 +65,9 @@ fn list_lent(program: &[u8], options: Options, ids: &[u32], addresses: &[u64])
         &mut makers,
         STDERR_FILENO,
     );
+    let mut line = [0u8; listing_saving::LINE];
     list_saving(
+        &mut line,
         program,
         flags,
         mode,

@@ -16,6 +16,7 @@ use libc::STDERR_FILENO;
 use libc::STDOUT_FILENO;
 use listing_options::filter::INPUT;
 use listing_options::filter::read_filter;
+use listing_options::help::HELP;
 use listing_options::help::explain_options;
 use listing_options::options::LARGEST;
 use listing_options::options::Options;
@@ -41,7 +42,8 @@ fn explain() {
         STDOUT_FILENO,
         b"BASE is the page's address, in hexadecimal with or without 0x. A refusal goes to standard error, as: refused NUMBER SLOT.\n",
     );
-    explain_options(Program::Map);
+    let mut options = [0u8; HELP];
+    explain_options(&mut options, Program::Map);
     io::write_all(
         STDOUT_FILENO,
         b"N, ID and ADDRESS are decimal, or hexadecimal behind 0x.\n",
@@ -134,7 +136,8 @@ fn map_at(base: u64) {
 }
 
 fn main() {
-    match read_base(Program::Map) {
+    let mut word = io::buffer();
+    match read_base(Program::Map, &mut word) {
         Base::At(base) => map_at(base),
         Base::Help => explain(),
         Base::Unclear => (),

@@ -25,6 +25,7 @@ use libc::STDIN_FILENO;
 use libc::STDOUT_FILENO;
 use listing_arguments::Number;
 use listing_options::options::Program;
+use listing_options::options::SENTENCE;
 use listing_options::options::complain;
 use listing_options::place::Base;
 use listing_options::place::read_base;
@@ -207,11 +208,15 @@ fn room_in(word: &[u8]) -> Number {
     let room = listing_arguments::number_of(word);
     match room {
         Number::Is(_) => (),
-        Number::Not => complain(
-            Program::Maps,
-            b"the room for the text is not a number: ",
-            word,
-        ),
+        Number::Not => {
+            let mut line = [0u8; SENTENCE];
+            complain(
+                &mut line,
+                Program::Maps,
+                b"the room for the text is not a number: ",
+                word,
+            );
+        }
     }
     room
 }
@@ -239,7 +244,8 @@ fn show_at(base: u64) {
 }
 
 fn main() {
-    match read_base(Program::Maps) {
+    let mut word = io::buffer();
+    match read_base(Program::Maps, &mut word) {
         Base::At(base) => show_at(base),
         Base::Help => explain(),
         Base::Unclear => (),

@@ -85,7 +85,9 @@ fn show_filter(program: &[u8], case: Case, ids: &[u32], addresses: &[u64], size:
     requires { ⌜ size ≤ longestPage + 1 ⌝ }
 {
     let answer = list_lent(program, case, ids, addresses, size);
+    let mut line = [0u8; listing_saving::LINE];
     list_saving(
+        &mut line,
         program,
         parts::flags_of(case),
         parts::mode_of(case),

@@ -31,6 +31,9 @@ slice-aggregate-list-filter-6 c = search needs
 list-filter-requires : tie.Need-list-filter-requires
 list-filter-requires c κs = search needs
 
+slice-aggregate-list-saving : tie.Need-slice-aggregate-list-saving
+slice-aggregate-list-saving c = search needs
+
 list-saving-requires : tie.Need-list-saving-requires
 list-saving-requires c κs = search needs
 
@@ -50,5 +53,6 @@ list-lent-spec =
     slice-aggregate-list-filter-5
     slice-aggregate-list-filter-6
     list-filter-requires
+    slice-aggregate-list-saving
     list-saving-requires
     returns)

@@ -1,0 +1,63 @@
+use Rattle.text.proofs.SaysLaws.{same, then}
+use borrow.Author.Needs.{needs}
+use Rattle.listing_options.proofs.help.put_end.Statement.{statement}
+use Rattle.listing_options.proofs.help.put_end.Tie as tie
+
+enum-told : tie.Need-enum-told
+enum-told c = search needs
+
+put-text-requires : tie.Need-put-text-requires
+put-text-requires c κs = search needs
+
+put-byte-requires : tie.Need-put-byte-requires
+put-byte-requires c κs = search needs
+
+enum-told-2 : tie.Need-enum-told-2
+enum-told-2 c = search needs
+
+put-byte-requires-2 : tie.Need-put-byte-requires-2
+put-byte-requires-2 c κs = search needs
+
+enum-told-3 : tie.Need-enum-told-3
+enum-told-3 c = search needs
+
+put-byte-requires-3 : tie.Need-put-byte-requires-3
+put-byte-requires-3 c κs = search needs
+
+same-length : tie.Need-same-length
+same-length c = search needs
+
+returns : tie.Need-returns
+returns c =
+    let told = c .before .before .before .before .before .before .before .before .enum-told .given .1 in
+    same (then (c .before .before .before .before .before .before .put-text .ensures) (c .before .before .put-byte .ensures)) (rw told)
+
+same-length-2 : tie.Need-same-length-2
+same-length-2 c = search needs
+
+returns-2 : tie.Need-returns-2
+returns-2 c = same (c .before .before .put-byte2 .ensures) (rw (c .before .before .before .before .enum-told2 .given .1))
+
+same-length-3 : tie.Need-same-length-3
+same-length-3 c = search needs
+
+returns-3 : tie.Need-returns-3
+returns-3 c = same (c .before .before .put-byte3 .ensures) (rw (c .before .before .before .before .enum-told3 .given .1))
+
+pub put-end-spec : {M : Type 1} → statement M
+put-end-spec =
+    tie.close
+    (tie.spec
+    enum-told
+    put-text-requires
+    put-byte-requires
+    enum-told-2
+    put-byte-requires-2
+    enum-told-3
+    put-byte-requires-3
+    same-length
+    returns
+    same-length-2
+    returns-2
+    same-length-3
+    returns-3)
