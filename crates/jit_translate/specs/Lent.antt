@@ -1,4 +1,5 @@
 -- What is asked, and what is answered (Translated.antt), of the parameters by their names (base/specs/Lent.antt).
+use mathlib.Core.Bool.{Bool}
 use Prim.Native.Nat.{ℕ}
 use lib.ListN.{length}
 use denote.Ref.{now}
@@ -33,6 +34,13 @@ abbrev pub asked : Lent → Flags → Mode → (ids addresses code locations fie
 asked prog flags mode ids addresses code locations fields targets kinds makers =
     inputs (prog .entry) flags mode (ids .entry) (addresses .entry)
     (code .entry) (locations .entry) (fields .entry) (targets .entry) (kinds .entry) (makers .entry)
+
+-- the flags and the mode, where they are asked for one by one
+abbrev pub flagged : (mbuff update : Bool) → Flags
+flagged mbuff update = record { «use_mbuff» = mbuff; «update_data_ptr» = update }
+
+abbrev pub inMode : (standard compact : Bool) → Mode
+inMode standard compact = record { standard = standard; compact = compact }
 
 -- THE CONTRACT: the answer and the contents at exit are what `translationOf` gives on what is asked.
 abbrev pub Translated : Inputs → (code locations fields targets : Lent) → Answer → Type 0

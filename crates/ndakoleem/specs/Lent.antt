@@ -1,18 +1,9 @@
 -- The contract of `ndakoleem_translate_4`, of its parameters by their names (base/specs/Lent.antt).
-use mathlib.Core.Bool.{Bool}
 use Rattle.base.specs.Lent.{Lent}
-use Rattle.jit.specs.declared.Flags.{Flags}
-use Rattle.jit.specs.declared.Mode.{Mode}
 use Rattle.jit.specs.Translation.{Inputs}
 use Rattle.jit_theorem.specs.Lent.{buffers}
 use Rattle.ndakoleem.specs.declared.Translation.{Translation}
 use Rattle.ndakoleem.specs.Exported as E
-
-abbrev pub flagged : (mbuff update : Bool) → Flags
-flagged mbuff update = record { «use_mbuff» = mbuff; «update_data_ptr» = update }
-
-abbrev pub inMode : (standard compact : Bool) → Mode
-inMode standard compact = record { standard = standard; compact = compact }
 
 abbrev pub Exported : Inputs → (code locations fields targets kinds makers : Lent) → Translation → Type 0
 Exported x code locations fields targets kinds makers r =

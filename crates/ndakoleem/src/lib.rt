@@ -1,7 +1,7 @@
 // The translator and the sentences as C sees them: the library that `rt staticlib ndakoleem` writes. It only hands on what it is given and
 // puts the answer into a struct of four numbers, since an enum does not pass the boundary. The declarations for C are include/ndakoleem.h.
-ghost use Rattle.jit_translate.specs.Lent.{asked};
-ghost use Rattle.ndakoleem.specs.Lent.{flagged, inMode, Exported};
+ghost use Rattle.jit_translate.specs.Lent.{asked, flagged, inMode};
+ghost use Rattle.ndakoleem.specs.Lent.{Exported};
 ghost use Rattle.refusals_text.specs.Lent.{Sentence};
 use jit::Flags;
 use jit::Mode;

@@ -3,8 +3,8 @@
 // share the functions below them, and the compiler inlines a long function where it has one caller only. As there, it only hands on what it
 // is given and puts the answer into a struct of numbers, since an enum does not pass the boundary. The declarations for C are
 // include/ndakoleem.h.
-ghost use Rattle.jit_translate.specs.Lent.{asked};
-ghost use Rattle.ndakoleem_map.specs.Lent.{flagged, inMode, ExportedMap};
+ghost use Rattle.jit_translate.specs.Lent.{asked, flagged, inMode};
+ghost use Rattle.ndakoleem_map.specs.Lent.{ExportedMap};
 use jit::Flags;
 use jit::Mode;
 use jit_mapping::Answer;
