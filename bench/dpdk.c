@@ -1,6 +1,6 @@
-// Stands around DPDK's JIT, lib/bpf/bpf_jit_x86.c of Debian's source package dpdk, which bench/build-dpdk compiles beside this file with
-// DPDK's own headers. A program comes to the JIT as a struct rte_bpf, which DPDK's loader makes once its validator has passed the
-// program; here it is made without them. Below it stand the functions of DPDK that the JIT names.
+// Stands around DPDK's JIT and its interpreter, lib/bpf/bpf_jit_x86.c and lib/bpf/bpf_exec.c of Debian's source package dpdk, which
+// bench/build-dpdk compiles beside this file with DPDK's own headers. A program comes to both as a struct rte_bpf, which DPDK's loader makes
+// once its validator has passed the program; here it is made without them. Below it stand the functions of DPDK that they name.
 #include <stdio.h>
 #include <stdlib.h>
 
@@ -39,7 +39,7 @@ void dpdk_free(struct rte_bpf *bpf) {
     free((struct loaded *)bpf);
 }
 
-// ---- what the JIT names ------------------------------------------------------------------------------------------------------------------
+// ---- what they name ----------------------------------------------------------------------------------------------------------------------
 
 int rte_bpf_logtype;
 
@@ -55,7 +55,7 @@ void __rte_panic(const char *function, const char *format, ...) {
     exit(2);
 }
 
-// The JIT writes its address into the code of loads that the bench does not give it; no translated program runs here.
+// For loads from DPDK's own packet buffer, which the bench gives to neither.
 const void *__rte_pktmbuf_read(const struct rte_mbuf *packet, uint32_t offset, uint32_t length, void *copy) {
     (void)packet; (void)offset; (void)length; (void)copy;
     return NULL;

@@ -1,7 +1,7 @@
 #!/usr/bin/env python3
 """Prints the bench's tables, in Markdown, from its rows, icount.c's counts and, where there are some, its times; then a summary.
 
-    bench/table.py ROWS COUNTS HASHLESS-COUNTS MODES-ROWS MODES-COUNTS MAPPED-ROWS MAPPED-COUNTS [TIMES]
+    bench/table.py ROWS COUNTS HASHLESS-COUNTS MODES-ROWS MODES-COUNTS MAPPED-ROWS MAPPED-COUNTS RUNS-ROWS RUNS-COUNTS [TIMES]
 
 DPDK's columns stand where the counts have some of its JIT. The last line is `ratio R`: this library's instructions over the Rust's on the
 corpus.
@@ -240,12 +240,22 @@ def show_mapped(rows, counts):
     view.show()
 
 
+def show_runs(rows, counts):
+    """A packet's run on the model, beside DPDK's interpreter; the slots are those that run."""
+    view = Table("a run", "slots run", "ours", "DPDK", "ours, a slot", "DPDK, a slot")
+    for label, row in rows.items():
+        both = [counts.instructions[label + engine] if counts.stretches[label + engine] else None for engine in (OURS, DPDK)]
+        view.add(row.name, row.slots, *["-" if count is None else count for count in both],
+                 *["-" if count is None else f"{count / row.slots:.2f}" for count in both])
+    view.show()
+
+
 def sums(figures):
     return Figures(*map(sum, zip(*figures.values())))
 
 
 def main():
-    rows, counts, hashless, modes_rows, modes_counts, mapped_rows, mapped_counts, *times = sys.argv[1:]
+    rows, counts, hashless, modes_rows, modes_counts, mapped_rows, mapped_counts, runs_rows, runs_counts, *times = sys.argv[1:]
     bench = Bench(rows_of(rows), Counts(counts), Counts(hashless), rows_of(times[0]) if times else {})
     for table, title in TITLES:
         print(f"\n{title}:\n")
@@ -256,6 +266,8 @@ def main():
     show_modes(rows_of(modes_rows), Counts(modes_counts))
     print("\nOurs, with a map of so many bytes (tightly: the text has room for no more):\n")
     show_mapped(rows_of(mapped_rows), Counts(mapped_counts))
+    print("\nA packet's run on the model, which checks each access and counts each slot (DPDK's interpreter does neither):\n")
+    show_runs(rows_of(runs_rows), Counts(runs_counts))
     print("\nSummary (on a page of 16384 bytes ours measures the program before it writes it):\n")
     bench.summary()
     print(f"\nratio {bench.corpus()}")

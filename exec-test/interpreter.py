@@ -16,11 +16,15 @@ SIZES = (4, 2, 1, 8)  # section 5, size modifier
 CALL, EXIT = 8, 9  # section 4.3
 FRAME = 512  # bytes of stack for a function; the RFC names no number, compilers and the kernel have this one
 STEPS = 1000000
-KNOWN = {"A1", "A2", "A3", "A4", "A5", "A6", "A8", "A9", "A20", "A25", "A26"}
+KNOWN = {"A1", "A2", "A3", "A4", "A5", "A6", "A8", "A9", "A20", "A24", "A25", "A26"}
 
 
 class Fault(Exception):
     """The program did what no program may."""
+
+
+class Outside(Fault):
+    """An access to memory that was not handed over."""
 
 
 class BadSwap(Fault):
@@ -50,7 +54,7 @@ class Memory:
         for start, data in self.regions:
             if start <= address and address + size <= start + len(data):
                 return data, address - start
-        raise Fault("%d bytes at %#x are not the program's" % (size, address))
+        raise Outside("%d bytes at %#x are not the program's" % (size, address))
 
     def load(self, address, size):
         data, at = self.place(address, size)
@@ -205,7 +209,7 @@ class Run:
 
     def access(self, kind, mode, size, dst, src, off, imm):
         """Section 5."""
-        if kind == LD and mode == IMM and size == 8 and src == 0:
+        if kind == LD and mode == IMM and size == 8 and (src == 0 or "A24" in self.as_page):
             self.regs[dst] = (imm & M32) | (self.slots[self.pc][3] & M32) << 32
             self.pc += 1
         elif kind == LD and mode in (ABS, IND) and size != 8:

@@ -12,7 +12,6 @@ line for each kind of instruction and the sums; the last line is 'N passed, M fa
 import functools
 import os
 import random
-import struct
 import sys
 
 HERE = os.path.dirname(os.path.abspath(__file__))
@@ -25,10 +24,10 @@ from interpreter import BadSwap, Fault, Memory, Run
 from loader import pages
 from modes import MODES
 from names import CONDITIONS, NAMES
+from slots import ADD_X, CALL, EXIT, JA, MOV_K, MUL_K, slot, wide
 
 STACK_TOP = 0x70000000
 PACKET = bytes(64)
-MUL_64, ADD_64_X, MOV_64, EXIT, WIDE, JA, CALL = 0x27, 0x0F, 0xB7, 0x95, 0x18, 0x05, 0x85
 NEG, MOV = 8, 11
 BAD_SWAP = 10  # the refusal
 EDGES = [0, 1, 0x80, 0xFFFF, 0x7FFFFFFF, 0x80000000, 0x100000000, 0x7FFFFFFFFFFFFFFF, 0x8000000000000001, 0xFFFFFFFFFFFFFFFF]
@@ -44,15 +43,6 @@ EXPECTED = {"MOV32 X": "A1", "MOD32 K": "A2", "MOD32 X": "A3", "DIV32 K signed":
             "LE 16": "A8", "LE 32": "A8", "LE other": "A9"}
 
 rng = random.Random(9669)
-
-
-def slot(opcode, dst=0, src=0, off=0, imm=0):
-    return struct.pack("<BBhi", opcode, src << 4 | dst, off, imm)
-
-
-def wide(dst, value):
-    low, high = struct.unpack("<ii", struct.pack("<Q", value))
-    return slot(WIDE, dst, imm=low) + slot(0, imm=high)
 
 
 def word():
@@ -73,7 +63,7 @@ class Case:
         self.kind = kind
         registers = [values.get("r%d" % r, word()) for r in range(10)]
         self.program = b"".join(wide(r, v) for r, v in enumerate(registers)) + middle
-        self.program += b"".join(slot(MUL_64, 0, imm=31) + slot(ADD_64_X, 0, r) for r in range(1, 10)) + slot(EXIT)
+        self.program += b"".join(slot(MUL_K, 0, imm=31) + slot(ADD_X, 0, r) for r in range(1, 10)) + slot(EXIT)
 
     def flags(self):
         return 1
@@ -140,7 +130,7 @@ def accesses():
         for base in range(1, 10):
             for off in (0, 1, 127, 128, -1, -128, -129, 300):
                 at = slot(0xBF, base, 10) + slot(0x07, base, imm=-400 - off) + slot(0x7A, base, off=off, imm=-1)
-                clear = slot(MOV_64, base)
+                clear = slot(MOV_K, base)
                 value = rng.choice([r for r in range(10) if r != base])
                 load = slot(0x79, value, base, off)
                 yield Case("LDX " + name, at + slot(0x7B, base, value, off) + slot(0x61 | size, value, base, off) + clear)
@@ -159,7 +149,7 @@ def calls():
     """Helpers, each at an address of its own; what a call leaves in r1 to r5 is nobody's business."""
     for helper in (MIX, *AT_BORDERS):
         for _ in range(10):
-            case = Case("CALL", slot(CALL, imm=helper) + b"".join(slot(MOV_64, r) for r in range(1, 6)))
+            case = Case("CALL", slot(CALL, imm=helper) + b"".join(slot(MOV_K, r) for r in range(1, 6)))
             case.helpers = (helper,)
             yield case
 
@@ -243,8 +233,12 @@ def say(mode, kinds):
     return failed
 
 
+def all_cases():
+    return [case for part in (arithmetic, jumps, accesses, wide_loads, calls) for case in part()]
+
+
 def main():
-    cases = [case for part in (arithmetic, jumps, accesses, wide_loads, calls) for case in part()]
+    cases = all_cases()
     print("exec-test: %d programs" % len(cases), file=sys.stderr, flush=True)
     by_rfc, by_kernel = [interpreted(case) for case in cases], [in_kernel(case) for case in cases]
     ours, tried, failed = {}, 0, 0
@@ -258,4 +252,5 @@ def main():
     sys.exit(1 if failed else 0)
 
 
-main()
+if __name__ == "__main__":
+    main()

@@ -3,8 +3,9 @@
    every register that they may change. Numbers are little-endian.
 
    Standard input: the number of packets, each as its length and bytes; then filters until the end, each as flags (bit 0 use_mbuff, bit 1
-   update_data_ptr, bit 2 standard mode, bit 3 compact constants), the page's bytes, the number of helper ids and the ids, the program's
-   length and bytes, and the position of a code byte to change before the run (ffffffff for none). All numbers have 32 bits.
+   update_data_ptr, bit 2 standard mode, bit 3 compact constants, bit 4 the packet's length as the page's second argument, which is r2), the
+   page's bytes, the number of helper ids and the ids, the program's length and bytes, and the position of a code byte to change before the run
+   (ffffffff for none). All numbers have 32 bits.
    Standard output, for each filter: number, slot, L and J of the answer, 32 bits each; accepted, the L code bytes and then for each packet
    a byte 0, the signal that ended the run, or 255 where registers that a function has to keep were changed, and the 64 bits of r0. A page
    that does not end is not run again: the packets behind get the same byte. */
@@ -185,7 +186,7 @@ static void write_run(uint8_t end, uint64_t verdict) {
 }
 
 /* Runs the page on a packet, writes what came of it and gives how it ended. A raw filter is promised 64 bytes. */
-static uint8_t run(const uint8_t *page, bool use_mbuff, struct bytes packet) {
+static uint8_t run(const uint8_t *page, bool use_mbuff, bool length_in_r2, struct bytes packet) {
     uint64_t room = !use_mbuff && packet.length < 64 ? 64 : packet.length;
     uint8_t *data = PACKET_END - room;
     memset(PACKET_END - 2 * PAGE, 0xa5, 2 * PAGE);
@@ -193,7 +194,8 @@ static uint8_t run(const uint8_t *page, bool use_mbuff, struct bytes packet) {
     memcpy(data, packet.at, packet.length);
     uint64_t mbuff[2] = {(uint64_t)data, (uint64_t)(data + packet.length)};
     memcpy(MBUFF_END - sizeof mbuff, mbuff, sizeof mbuff);
-    uint64_t arguments[4] = {(uint64_t)(MBUFF_END - sizeof mbuff), sizeof mbuff, (uint64_t)data, packet.length};
+    uint64_t second = length_in_r2 ? packet.length : sizeof mbuff;
+    uint64_t arguments[4] = {(uint64_t)(MBUFF_END - sizeof mbuff), second, (uint64_t)data, packet.length};
     volatile uint64_t verdict = 0;
     uint64_t kept = 0;
     uint8_t end = (uint8_t)sigsetjmp(faulted, 1);
@@ -222,7 +224,7 @@ static uint8_t *executable(const uint8_t *code, size_t length) {
     return page;
 }
 
-static void try_filter(struct ndakoleem_flags flags, const struct bytes *packets, uint32_t packet_count) {
+static void try_filter(struct ndakoleem_flags flags, bool length_in_r2, const struct bytes *packets, uint32_t packet_count) {
     static uint8_t code[NDAKOLEEM_CODE_MAX];
     static struct ndakoleem_memory memory;
     uint32_t ids[NDAKOLEEM_HELPERS_MAX];
@@ -245,7 +247,7 @@ static void try_filter(struct ndakoleem_flags flags, const struct bytes *packets
     uint8_t *page = executable(code, t.length);
     for (uint32_t i = 0, end = 0; i < packet_count; i++) {
         if (end == SIGALRM) write_run(end, 0);
-        else end = run(page, flags.use_mbuff, packets[i]);
+        else end = run(page, flags.use_mbuff, length_in_r2, packets[i]);
     }
 }
 
@@ -264,7 +266,7 @@ int main(void) {
     while (fread(&flags, 1, 4, stdin) == 4) {
         struct ndakoleem_flags named = {
             .use_mbuff = flags & 1, .update_data_ptr = flags & 2, .standard = flags & 4, .compact = flags & 8};
-        try_filter(named, packets, count);
+        try_filter(named, flags & 16, packets, count);
     }
     return 0;
 }

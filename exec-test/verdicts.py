@@ -23,6 +23,7 @@ sys.path[:0] = [HERE, FILTERS]
 
 import compact
 import kernel
+import tcpdump
 from helpers import CSUM_DIFF, FUNCTIONS
 from interpreter import Fault, M32, Memory, Run
 from loader import NO_CHANGE, pages
@@ -33,15 +34,6 @@ from modes import MODES, RBPF
 # As in runner.c.
 PACKET_END, MBUFF_END = 0x30010000, 0x20001000
 STACK_TOP = 0x70000000
-
-
-def records(capture):
-    """(time in milliseconds, bytes) of each packet of a pcap file."""
-    at = 24
-    while at < len(capture):
-        seconds, micros, length, _ = struct.unpack_from("<IIII", capture, at)
-        yield seconds * 1000 + micros // 1000, capture[at + 16:at + 16 + length]
-        at += 16 + length
 
 
 def expectations():
@@ -92,11 +84,7 @@ def dumped(expression, times):
     """Whether tcpdump keeps each packet, None where it is not asked. No two packets have the same time."""
     if expression is None:
         return [None] * len(times)
-    command = ["tcpdump", "-r", CAPTURE, "-w", "-", expression]
-    done = subprocess.run(command, stdout=subprocess.PIPE, stderr=subprocess.PIPE)
-    if done.returncode:
-        fail("tcpdump does not take '%s': %s" % (expression, done.stderr.decode().strip()))
-    kept = {time for time, _ in records(done.stdout)}
+    kept = tcpdump.kept(expression, CAPTURE)
     return [time in kept for time in times]
 
 
@@ -211,7 +199,7 @@ def say(judged):
 def main():
     chosen, change, each = arguments()
     with open(CAPTURE, "rb") as file:
-        times, packets = zip(*records(file.read()))
+        times, packets = zip(*tcpdump.records(file.read()))
     if each:
         break_each(chosen, packets)
         return
@@ -227,4 +215,5 @@ def main():
     sys.exit(1 if failed else 0)
 
 
-main()
+if __name__ == "__main__":
+    main()

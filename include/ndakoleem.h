@@ -1,8 +1,10 @@
 /* Ndakoleem for C: turns an eBPF filter into the x86-64 page that decides which packets are kept.
  *
  * Link with libndakoleem.a, which `rt staticlib ndakoleem` writes to target/staticlib; a caller of ndakoleem_translate_mapped_1 or
- * ndakoleem_translate_mapped_into links libndakoleem_map.a too (`rt staticlib ndakoleem_map`). Each library is x86-64 code, allocates nothing,
- * keeps nothing between calls, calls nothing of the operating system, and can be called by several threads at once, each with its own buffers.
+ * ndakoleem_translate_mapped_into links libndakoleem_map.a too (`rt staticlib ndakoleem_map`), and one of ndakoleem_run_packet_1 or
+ * ndakoleem_run_packet_into libndakoleem_replay.a (`rt staticlib ndakoleem_replay`), which takes memset from the C library. Each library is
+ * x86-64 code, allocates nothing, keeps nothing between calls, calls nothing of the operating system, and can be called by several threads at
+ * once, each with its own buffers.
  *
  *     static struct ndakoleem_memory memory;
  *     struct ndakoleem_buffers lent = ndakoleem_lend(&memory);
@@ -42,6 +44,8 @@ enum {
     NDAKOLEEM_MAP_ENOUGH = NDAKOLEEM_MAP_LINE_MAX * (NDAKOLEEM_SLOTS_MAX + 2), /* bytes: every program's map finds room */
     NDAKOLEEM_HELPERS_MAX = 256,     /* helpers */
     NDAKOLEEM_EXIT_TARGET = 1000001, /* in the table of targets: a jump to the exit */
+    NDAKOLEEM_PACKET_MAX = 65535,    /* bytes of a packet that is run on the model */
+    NDAKOLEEM_STEPS_MAX = 65536,     /* slots that such a run takes */
     NDAKOLEEM_SENTENCE_ENOUGH = 200  /* bytes: every sentence of ndakoleem_sentence finds room */
 };
 
@@ -64,7 +68,18 @@ enum ndakoleem_number {
     NDAKOLEEM_NO_ROOM = 13,          /* the code runs past the code buffer                  [the slot whose code does, or n for the epilogue] */
     NDAKOLEEM_BAD_TARGET = 14,       /* a jump or a local call goes to no slot of the program                    [the first such jump's slot] */
     NDAKOLEEM_BASE_TOO_HIGH = 15,    /* with a map: the base and the code's length make more than 2^64 - 1                                [0] */
-    NDAKOLEEM_TEXT_TOO_SHORT = 16    /* with a map: it does not fit into the text buffer                                                  [0] */
+    NDAKOLEEM_TEXT_TOO_SHORT = 16,   /* with a map: it does not fit into the text buffer                                                  [0] */
+    NDAKOLEEM_NOT_PCAP = 17,         /* of a capture alone, which no function here reads: it does not begin with a libpcap header         [0] */
+    NDAKOLEEM_BAD_RECORD = 18,       /* of a run: the packet is longer than NDAKOLEEM_PACKET_MAX, or than the buffer for its copy         [0] */
+    NDAKOLEEM_NOT_MODELLED = 19      /* of a run: a call, or a packet load of the mode ABS or IND, which the model does not run   [that slot] */
+};
+
+/* How a packet's run on the model ended. */
+enum ndakoleem_ended {
+    NDAKOLEEM_ENDED_EXIT = 0,        /* by EXIT: r0 is the filter's answer, and the packet is kept where that is not 0 */
+    NDAKOLEEM_ENDED_STEP_LIMIT = 1,  /* stopped, since NDAKOLEEM_STEPS_MAX slots were run */
+    NDAKOLEEM_ENDED_ACCESS = 2,      /* stopped at a load or a store that lies neither wholly in the packet nor wholly in the stack */
+    NDAKOLEEM_ENDED_NO_SLOT = 3      /* stopped behind the last slot, or at a wide load's second one: there is nothing to run */
 };
 
 /* What a jump is, in the table of kinds. */
@@ -90,6 +105,15 @@ struct ndakoleem_mapped {
     size_t length;
     size_t jumps;
     size_t text;
+};
+
+/* A packet's run on the model. Run: number and slot are 0, ended is one of enum ndakoleem_ended, and r0 what the filter answers, or 0 where the
+ * run was stopped; so the packet is kept where r0 is not 0. Refused: number and slot say why and where; ended and r0 are 0. */
+struct ndakoleem_ran {
+    uint8_t number;
+    size_t slot;
+    uint8_t ended;
+    uint64_t r0;
 };
 
 /* Goes ahead of the name of a helper that is written in C: `static NDAKOLEEM_HELPER uint64_t name(uint64_t r1, ..)`.
@@ -163,6 +187,36 @@ struct ndakoleem_mapped ndakoleem_translate_mapped_1(
     uint32_t *makers, size_t makers_length,
     uint64_t base,
     char *text, size_t text_length);
+
+/* Runs a program on one packet, on the library's model of RFC 9669 in standard mode: what the bytecode itself says of the packet, with which a
+ * loader can compare what a page says. It stands in libndakoleem_replay.a, of which a loader that compares nothing links nothing. As for
+ * ndakoleem_translate_4, every argument gets an answer, and no pointer may be null.
+ *
+ *   program              the filter's bytecode
+ *   ids, addresses       the helpers that its page may call. The model calls none: a program with a call whose id is listed is refused with
+ *                        NDAKOLEEM_NOT_MODELLED, and not with NDAKOLEEM_UNKNOWN_HELPER
+ *   page                 the length of the code buffer that the program is translated into: the refusals are those of such a translation, in
+ *                        standard mode and without a metadata buffer, then NDAKOLEEM_NOT_MODELLED, then NDAKOLEEM_BAD_RECORD
+ *   packet               is read alone
+ *   copy                 run: at its head stands the packet as the run left it; a packet into which nothing was stored is there unchanged
+ *   counts               at least as many entries as the program has slots, and one. Run: each slot that ran added one to its entry for
+ *                        each time that it ran, an access that stopped the run included; so the counts of several packets add up
+ *
+ * Everything else is left as it was; a refusal changes nothing at all.
+ *
+ * A run starts afresh: r1 is the packet's address, which is 268435456 on the model, r2 its length, r10 the end of a stack of 512 zero bytes at
+ * 536870912, and every other register 0. A page's caller has to see to the same where it compares: without a metadata buffer r2 is the second
+ * argument of the page's call, so the packet's length is passed there too, `f(NULL, packet_length, packet, packet_length, 0, 0)`. Nothing sets
+ * the page's other registers and its stack (docs/DIFFERENCES.md, A34): a filter that reads what it has not written, or that makes a verdict of
+ * an address, differs without a fault of either. Where the model stops, the page goes on with whatever lies there. */
+struct ndakoleem_ran ndakoleem_run_packet_1(
+    const uint8_t *program, size_t program_length,
+    const uint32_t *ids, size_t ids_length,
+    const uint64_t *addresses, size_t addresses_length,
+    size_t page,
+    const uint8_t *packet, size_t packet_length,
+    uint8_t *copy, size_t copy_length,
+    uint64_t *counts, size_t counts_length);
 
 /* A refusal in words, for an operator: "slot 7: a jump to slot 90, the program ends at 40 (refusal 14)". The program, and the answer's number and
  * slot, go in; the sentence goes to the start of `out`, cut where it does not fit and not ended by a zero, and its length is given back. */
@@ -286,6 +340,34 @@ static inline struct ndakoleem_mapped ndakoleem_translate_mapped_into(
         given.makers, given.makers_length,
         base,
         text == NULL ? &no_text : text, text_length);
+}
+
+/* What is lent to runs and written by them; ndakoleem_run_packet_1 explains each. Every packet and every program finds room in it. The counts
+ * are zero ahead of the first packet. It is more than 80 KiB: too much for a small stack. */
+struct ndakoleem_run_memory {
+    uint8_t copy[NDAKOLEEM_PACKET_MAX];
+    uint64_t counts[NDAKOLEEM_TABLE_ENOUGH];
+};
+
+/* ndakoleem_run_packet_1 on that memory, for a page in which every program finds room. The helper lists and the packet may be null where their
+ * lengths are 0. */
+static inline struct ndakoleem_ran ndakoleem_run_packet_into(
+    const uint8_t *program, size_t program_length,
+    const uint32_t *ids, size_t ids_length,
+    const uint64_t *addresses, size_t addresses_length,
+    const uint8_t *packet, size_t packet_length,
+    struct ndakoleem_run_memory *memory) {
+    static const uint32_t no_id = 0;
+    static const uint64_t no_address = 0;
+    static const uint8_t no_byte = 0;
+    return ndakoleem_run_packet_1(
+        program, program_length,
+        ids == NULL ? &no_id : ids, ids_length,
+        addresses == NULL ? &no_address : addresses, addresses_length,
+        NDAKOLEEM_CODE_ENOUGH,
+        packet == NULL ? &no_byte : packet, packet_length,
+        memory->copy, NDAKOLEEM_PACKET_MAX,
+        memory->counts, NDAKOLEEM_TABLE_ENOUGH);
 }
 
 #ifdef __cplusplus

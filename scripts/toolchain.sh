@@ -6,10 +6,13 @@
 #   fail WORDS..      says why the script cannot go on, and ends it with status 2
 #   need TOOL..       commands, or rust_x86: those that are missing are installed from Debian
 #   kit               prints the folder of the Rattle kit
+#   kit_command PROGRAM
+#                     prints the words that run a program that the kit has built, a line each
 #   x86_gcc, x86_objdump, rust_x86, "${emulator[@]}"
 #                     compilers for x86-64, its disassembler, and what goes ahead of a program for it: nothing on an x86-64 machine
-#   build_library     the static libraries, $library and, for who wants a map, $map_library: proved and built anew where a crate has changed since
-#   build_wrapper     the Rust crate of rust/ over both
+#   build_library     the static libraries, $library and, for who wants a map or a packet's run, $map_library and $replay_library: proved and
+#                     built anew where a crate has changed since
+#   build_wrapper     the Rust crate of rust/ over all three
 #   up_to_date        whether a file is newer than what it is made of
 #   in_python         goes on in Python, which finds the tools' names in its environment
 
@@ -17,6 +20,8 @@ root=$(cd "$(dirname "${BASH_SOURCE[0]}")/.." && pwd -P)
 machine=$(uname -m)
 library=$root/target/staticlib/libndakoleem.a
 map_library=$root/target/staticlib/libndakoleem_map.a
+replay_library=$root/target/staticlib/libndakoleem_replay.a
+libraries=("$library" "$map_library" "$replay_library")
 rust_packages=(rustc-web gcc libc6-dev)
 x86_gcc=gcc
 x86_objdump=objdump
@@ -45,6 +50,7 @@ packages() {
     x86_64-linux-gnu-objdump) echo binutils-x86-64-linux-gnu ;;
     qemu-x86_64) echo qemu-user ;;
     cargo) echo cargo-web ;;
+    editcap) echo wireshark-common ;;
     perf) echo linux-perf ;;
     xz) echo xz-utils ;;
     rust_x86) echo "${rust_packages[@]}" ;;
@@ -109,6 +115,17 @@ kit() {
     (cd "${rt%/*}/.." && pwd -P)
 }
 
+# Programs are x86-64 ones: another machine has an emulator for them in the kit, beside their loader and C library.
+kit_command() {
+    local tools
+    if [ "$machine" != x86_64 ]; then
+        tools=$(kit)/on/$machine/toolchain
+        [ -x "$tools/bin/qemu-x86_64" ] || fail "the Rattle kit has no emulator for this machine, $machine"
+        printf '%s\n' "$tools/bin/qemu-x86_64" "$tools/lib/ld-linux-x86-64.so.2" --library-path "$tools/lib"
+    fi
+    printf '%s\n' "$1"
+}
+
 # ---- building ----------------------------------------------------------------------------------------------------------------------------
 
 # up_to_date FILE SOURCE..: the file is there, and no source is newer.
@@ -117,16 +134,21 @@ up_to_date() {
 }
 
 build_library() {
-    local name log=$root/target/staticlib.log made_of=("$root/crates.txt" "$root/crates")
-    if up_to_date "$library" "${made_of[@]}" && up_to_date "$map_library" "${made_of[@]}"; then return; fi
+    local archive name log=$root/target/staticlib.log old=()
+    for archive in "${libraries[@]}"; do
+        up_to_date "$archive" "$root/crates.txt" "$root/crates" || old+=("$archive")
+    done
+    if [ ${#old[@]} -eq 0 ]; then return; fi
     need rt
     echo "proving and building the libraries (the first time: some minutes)" >&2
     mkdir -p "$root/target"
-    for name in ndakoleem ndakoleem_map; do
+    for archive in "${old[@]}"; do
+        name=$(basename "$archive" .a)
+        name=${name#lib}
         (cd "$root" && rt staticlib "$name") >"$log" 2>&1 || { cat "$log" >&2; fail "the library $name is not built"; }
     done
     # An archive is not written anew where nothing that it is made of has changed.
-    touch "$library" "$map_library"
+    touch "${old[@]}"
 }
 
 # Debian's rustc, and not another that stands before it in PATH: the same for everyone, and on Arm the one that has x86-64's library.
@@ -142,7 +164,7 @@ rust_x86() {
 
 # build_wrapper FOLDER: the crate, as FOLDER/libndakoleem.rlib.
 build_wrapper() {
-    if up_to_date "$1/libndakoleem.rlib" "$library" "$map_library" "$root/rust/src"; then return; fi
+    if up_to_date "$1/libndakoleem.rlib" "${libraries[@]}" "$root/rust/src"; then return; fi
     rust_x86 --crate-name ndakoleem --crate-type rlib --out-dir "$1" "$root/rust/src/lib.rs"
 }
 

@@ -1,4 +1,5 @@
-//! DPDK's JIT, `bpf_jit_x86`, put to the same programs through `dpdk.c`.
+//! DPDK's JIT, `bpf_jit_x86`, put to the same programs through `dpdk.c`, and
+//! its interpreter, `rte_bpf_exec`.
 //!
 //! In DPDK a validator goes before the JIT; it is no part of the bench. What
 //! the JIT leaves to it is seen to here: a program for which the JIT would read
@@ -14,6 +15,7 @@ struct RteBpf([u8; 0]);
 
 extern "C" {
     fn bpf_jit_x86(bpf: *mut RteBpf) -> i32;
+    fn rte_bpf_exec(bpf: *const RteBpf, packet: *const u8) -> u64;
     fn dpdk_load(
         slots: *const u64,
         count: u32,
@@ -49,6 +51,13 @@ impl Program {
     #[inline(never)]
     pub fn translate(&mut self) -> bool {
         unsafe { bpf_jit_x86(self.bpf) == 0 }
+    }
+
+    /// One run, interpreted: r1 is the packet's address, and no access is
+    /// checked. Gives r0.
+    #[inline(never)]
+    pub fn run(&self, packet: &[u8]) -> u64 {
+        unsafe { rte_bpf_exec(self.bpf, packet.as_ptr()) }
     }
 }
 

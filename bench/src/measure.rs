@@ -24,13 +24,13 @@ const TABLES: usize = 5;
 /// A row's labels, from its first, as `table.py` reads them. Those of DPDK are
 /// of the programs that its JIT takes.
 const RUST: u64 = 0;
-const OURS: u64 = 1;
-const DPDK: u64 = 2;
+pub const OURS: u64 = 1;
+pub const DPDK: u64 = 2;
 const OURS_BESIDE_DPDK: u64 = 3;
 const OURS_IN_MODES: u64 = 4;
 const OURS_MAPPED: u64 = OURS_IN_MODES + MODES.len() as u64;
 const OURS_MAPPED_TIGHTLY: u64 = OURS_MAPPED + 1;
-const LABELS: u64 = OURS_MAPPED_TIGHTLY + 1;
+pub const LABELS: u64 = OURS_MAPPED_TIGHTLY + 1;
 /// Standard mode and compact constants, off and on, in the order of the labels.
 const MODES: [(bool, bool); 4] = [(false, false), (false, true), (true, false), (true, true)];
 /// Where pages with a map stand: mmap puts them at addresses of so many digits.
@@ -152,10 +152,10 @@ fn mark(number: u64, label: u64) {
     }
 }
 
-/// One translation between two marks: a function of its own, so that what
+/// One translation, or one run, between two marks: a function of its own, so that what
 /// stands around it does not change what is counted of it.
 #[inline(never)]
-fn marked(label: u64, translation: impl FnOnce()) {
+pub fn marked(label: u64, translation: impl FnOnce()) {
     mark(500_000, label);
     translation();
     mark(500_001, 0);

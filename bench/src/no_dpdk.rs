@@ -13,4 +13,8 @@ impl Program {
     pub fn translate(&mut self) -> bool {
         match *self {}
     }
+
+    pub fn run(&self, _: &[u8]) -> u64 {
+        match *self {}
+    }
 }

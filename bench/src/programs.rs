@@ -16,7 +16,7 @@ pub struct Row {
 const PAGE: u32 = ndakoleem::CODE_MAX as u32;
 const HELPER: u32 = 1;
 
-fn slot(opc: u8, dst: u8, src: u8, off: i16, imm: i32) -> [u8; 8] {
+pub fn slot(opc: u8, dst: u8, src: u8, off: i16, imm: i32) -> [u8; 8] {
     ebpf::Insn { opc, dst, src, off, imm }.to_array()
 }
 
@@ -48,7 +48,7 @@ fn mixed(slots: usize) -> Vec<u8> {
 
 /// A case on the longest page with tables to fit, and every helper that the
 /// program calls.
-fn case_of(program: Vec<u8>) -> Case {
+pub fn case_of(program: Vec<u8>) -> Case {
     let slots = program.chunks_exact(8);
     let calls = slots.filter(|slot| slot[0] == ebpf::CALL && slot[1] >> 4 == 0);
     let mut helper_ids: Vec<u32> =

@@ -1,6 +1,6 @@
 /* A loader in C: reads a filter, has it translated, maps its page, and runs it over the packets of a pcap.
  *
- *   loader [--raw] [--standard] [--compact] [--perf-map] [--times N] FILTER PCAP
+ *   loader [--raw] [--standard] [--compact] [--model] [--perf-map] [--times N] FILTER PCAP
  *
  * FILTER is bytecode, eight bytes a slot. r1 of the filter is a struct packet, the addresses of the packet's first byte and of the byte behind
  * its last; with --raw it is the packet itself, with zeros behind it up to 64 bytes at least. --standard has it translated in standard mode,
@@ -8,7 +8,10 @@
  * it is: one that reads outside the packet or never ends takes the loader with it.
  *
  * --perf-map writes the page's map where perf looks for it ahead of the first packet, so that perf names the filter's slots; it stays there, for
- * perf reads it afterwards. --times N runs the filter over all packets N times, and prints the verdicts of the first: so a profiler sees it. */
+ * perf reads it afterwards. --times N runs the filter over all packets N times, and prints the verdicts of the first: so a profiler sees it.
+ *
+ * --model, with --raw and --standard, runs each packet on the library's model of the bytecode too, and says how many verdicts differ: of the
+ * packets, that is, on which the model does not stop, as it does where the filter reads behind a packet's end. */
 #include <stdbool.h>
 #include <stdio.h>
 #include <stdlib.h>
@@ -68,6 +71,13 @@ static NDAKOLEEM_HELPER uint64_t mix(uint64_t a, uint64_t b, uint64_t c, uint64_
 static const uint32_t helper_ids[] = {1, 2};
 enum { HELPERS = sizeof helper_ids / sizeof helper_ids[0] };
 
+static const uint64_t *helper_addresses(void) {
+    static uint64_t addresses[HELPERS];
+    addresses[0] = (uint64_t)is_subscribed;
+    addresses[1] = (uint64_t)mix;
+    return addresses;
+}
+
 /* Where perf looks for it: the kernel's tools/perf/Documentation/jit-interface.txt fixes the name. What is there already may belong to
  * somebody else, or be a link: it is not written to. */
 static void write_map(const char *map, size_t length) {
@@ -87,36 +97,62 @@ static void *mapping(const char *name) {
     return page;
 }
 
-/* The filter's code in a mapping of its own, executable and no longer writable; a refusal ends the program with its sentence. */
-static page_function load(const char *name, struct ndakoleem_flags flags, bool perf_map) {
+/* A filter, and where it was read from. */
+struct filter {
+    const char *name;
+    struct bytes program;
+};
+
+/* A refusal ends the program with its sentence. */
+static _Noreturn void refuse(const struct filter *filter, uint8_t number, size_t slot) {
+    char sentence[NDAKOLEEM_SENTENCE_ENOUGH];
+    size_t length = ndakoleem_sentence(filter->program.at, filter->program.length, number, slot, sentence, sizeof sentence);
+    fflush(stdout);
+    fprintf(stderr, "loader: %s is refused: %.*s\n", filter->name, (int)length, sentence);
+    exit(1);
+}
+
+/* The filter's code in a mapping of its own, executable and no longer writable. */
+static page_function load(const struct filter *filter, struct ndakoleem_flags flags, bool perf_map) {
     static struct ndakoleem_memory memory;
     static char map[NDAKOLEEM_MAP_ENOUGH];
     struct ndakoleem_buffers lent = ndakoleem_lend(&memory);
-    const uint64_t helpers[HELPERS] = {(uint64_t)is_subscribed, (uint64_t)mix};
-    struct bytes program = read_file(name);
+    const char *name = filter->name;
     void *page = mapping(name);
     struct ndakoleem_mapped done = ndakoleem_translate_mapped_into(
-        program.at, program.length, flags, helper_ids, HELPERS, helpers, HELPERS, &lent, (uint64_t)page, map, sizeof map);
-    if (done.number != NDAKOLEEM_ACCEPTED) {
-        char sentence[NDAKOLEEM_SENTENCE_ENOUGH];
-        size_t length = ndakoleem_sentence(program.at, program.length, done.number, done.slot, sentence, sizeof sentence);
-        fprintf(stderr, "loader: %s is refused: %.*s\n", name, (int)length, sentence);
-        exit(1);
-    }
-    printf("%s: %zu slots, %zu bytes of code\n", name, program.length / 8, done.length);
-    free(program.at);
+        filter->program.at, filter->program.length, flags, helper_ids, HELPERS, helper_addresses(), HELPERS, &lent,
+        (uint64_t)page, map, sizeof map);
+    if (done.number != NDAKOLEEM_ACCEPTED) refuse(filter, done.number, done.slot);
+    printf("%s: %zu slots, %zu bytes of code\n", name, filter->program.length / 8, done.length);
     memcpy(page, memory.code, done.length);
     if (mprotect(page, NDAKOLEEM_CODE_ENOUGH, PROT_READ | PROT_EXEC) != 0) fail(name, "its page cannot be made executable");
     if (perf_map) write_map(map, done.text);
     return (page_function)page;
 }
 
+/* A raw page has the second argument in r2, as the model has the packet's length there. */
 static bool keeps(page_function page, bool raw, const uint8_t *data, size_t length) {
     static uint8_t buffer[PACKET_MAX + RAW_LEAST];
     memset(buffer + length, 0, RAW_LEAST);
     memcpy(buffer, data, length);
     struct packet packet = {buffer, buffer + length};
-    return page(raw ? NULL : &packet, raw ? 0 : sizeof packet, buffer, length, 0, 0) != 0;
+    return page(raw ? NULL : &packet, raw ? length : sizeof packet, buffer, length, 0, 0) != 0;
+}
+
+/* A filter whose packets are run on the model too, and what came of it. */
+struct comparison {
+    const struct filter *filter;
+    size_t differ, stopped;
+};
+
+static void compare(struct comparison *model, const uint8_t *data, size_t length, bool keep) {
+    static struct ndakoleem_run_memory memory;
+    struct bytes program = model->filter->program;
+    struct ndakoleem_ran ran = ndakoleem_run_packet_into(
+        program.at, program.length, helper_ids, HELPERS, helper_addresses(), HELPERS, data, length, &memory);
+    if (ran.number != NDAKOLEEM_ACCEPTED) refuse(model->filter, ran.number, ran.slot);
+    if (ran.ended != NDAKOLEEM_ENDED_EXIT) model->stopped += 1;
+    else if ((ran.r0 != 0) != keep) model->differ += 1;
 }
 
 static uint32_t number_at(const uint8_t *at, bool swapped) {
@@ -125,7 +161,7 @@ static uint32_t number_at(const uint8_t *at, bool swapped) {
 }
 
 /* Once over a pcap's packets, which are numbered from 1, as tcpdump and tshark number them. */
-static void run_once(page_function page, bool raw, const char *name, struct bytes pcap, bool shown) {
+static void run_once(page_function page, bool raw, const char *name, struct bytes pcap, bool shown, struct comparison *model) {
     uint32_t magic = pcap.length < FILE_HEADER ? 0 : number_at(pcap.at, false);
     bool swapped = magic == 0xd4c3b2a1 || magic == 0x4d3cb2a1;
     if (!swapped && magic != 0xa1b2c3d4 && magic != 0xa1b23c4d) fail(name, "is no pcap");
@@ -136,6 +172,7 @@ static void run_once(page_function page, bool raw, const char *name, struct byte
         at += PACKET_HEADER;
         if (length > PACKET_MAX || length > pcap.length - at) fail(name, "ends inside a packet, or has one that is too long");
         bool keep = keeps(page, raw, pcap.at + at, length);
+        if (shown && model != NULL) compare(model, pcap.at + at, length, keep);
         at += length;
         packets += 1;
         kept += keep;
@@ -144,11 +181,12 @@ static void run_once(page_function page, bool raw, const char *name, struct byte
     }
     if (at != pcap.length) fail(name, "ends inside a packet's header");
     if (shown) printf("kept %zu of %zu packets, %zu bytes\n", kept, packets, bytes);
+    if (shown && model != NULL) printf("on the model %zu verdicts differ, and %zu packets stop it\n", model->differ, model->stopped);
 }
 
-static void run(page_function page, bool raw, const char *name, size_t times) {
+static void run(page_function page, bool raw, const char *name, size_t times, struct comparison *model) {
     struct bytes pcap = read_file(name);
-    for (size_t time = 0; time < times; time += 1) run_once(page, raw, name, pcap, time == 0);
+    for (size_t time = 0; time < times; time += 1) run_once(page, raw, name, pcap, time == 0, model);
     free(pcap.at);
 }
 
@@ -160,21 +198,27 @@ static size_t times_of(const char *word) {
 
 int main(int count, char **words) {
     struct ndakoleem_flags flags = {.use_mbuff = true};
-    bool perf_map = false;
+    bool perf_map = false, with_model = false;
     size_t times = 1;
     int at = 1;
     for (; at < count; at += 1) {
         if (strcmp(words[at], "--raw") == 0) flags.use_mbuff = false;
         else if (strcmp(words[at], "--standard") == 0) flags.standard = true;
         else if (strcmp(words[at], "--compact") == 0) flags.compact = true;
+        else if (strcmp(words[at], "--model") == 0) with_model = true;
         else if (strcmp(words[at], "--perf-map") == 0) perf_map = true;
         else if (strcmp(words[at], "--times") == 0 && at + 1 < count && (times = times_of(words[at + 1])) > 0) at += 1;
         else break;
     }
-    if (count - at != 2 || times == 0) {
-        fprintf(stderr, "usage: loader [--raw] [--standard] [--compact] [--perf-map] [--times N] FILTER PCAP\n");
+    /* The model is of standard mode, and r1 is the packet. */
+    bool modelled = !flags.use_mbuff && flags.standard;
+    if (count - at != 2 || times == 0 || (with_model && !modelled)) {
+        fprintf(stderr, "usage: loader [--raw] [--standard] [--compact] [--model] [--perf-map] [--times N] FILTER PCAP\n");
         return 2;
     }
-    run(load(words[at], flags, perf_map), !flags.use_mbuff, words[at + 1], times);
+    struct filter filter = {words[at], read_file(words[at])};
+    struct comparison model = {&filter, 0, 0};
+    run(load(&filter, flags, perf_map), !flags.use_mbuff, words[at + 1], times, with_model ? &model : NULL);
+    free(filter.program.at);
     return 0;
 }

@@ -1,7 +1,7 @@
 //! A loader in Rust: reads a filter, has it translated, maps its page, and
 //! runs it over the packets of a pcap.
 //!
-//!     loader [--raw] [--standard] [--compact] [--perf-map] [--times N] FILTER PCAP
+//!     loader [--raw] [--standard] [--compact] [--model] [--perf-map] [--times N] FILTER PCAP
 //!
 //! FILTER is bytecode, eight bytes a slot. r1 of the filter is a `Packet`, the
 //! addresses of the packet's first byte and of the byte behind its last; with
@@ -15,6 +15,11 @@
 //! packet, so that perf names the filter's slots; it stays there, for perf reads
 //! it afterwards. --times N runs the filter over all packets N times, and prints
 //! the verdicts of the first: so a profiler sees it.
+//!
+//! --model, with --raw and --standard, runs each packet on the library's model of
+//! the bytecode too, and says how many verdicts differ: of the packets, that is,
+//! on which the model does not stop, as it does where the filter reads behind a
+//! packet's end.
 
 use std::error::Error;
 use std::fs::{self, File};
@@ -22,7 +27,7 @@ use std::io::Write;
 use std::process::{self, ExitCode};
 use std::ptr;
 
-use ndakoleem::{Flags, Helpers, Page, CODE_ENOUGH, MAP_ENOUGH};
+use ndakoleem::{Ended, Flags, Helpers, Model, Page, Refusal, CODE_ENOUGH, MAP_ENOUGH};
 
 type Outcome<T> = Result<T, Box<dyn Error>>;
 type PageFunction =
@@ -105,14 +110,34 @@ fn loaded(name: &str, code: &[u8], at: *mut u8) -> Outcome<PageFunction> {
     }
 }
 
-fn load(name: &str, flags: Flags, perf_map: bool) -> Outcome<PageFunction> {
+/// A filter, where it was read from, and its helpers' addresses.
+struct Filter {
+    name: String,
+    program: Vec<u8>,
+    addresses: [u64; 2],
+}
+
+impl Filter {
+    fn new(name: String) -> Outcome<Filter> {
+        let addresses = [is_subscribed_entry as *const () as u64, mix_entry as *const () as u64];
+        Ok(Filter { program: read(&name)?, name, addresses })
+    }
+
+    fn helpers(&self) -> Helpers<'_> {
+        Helpers { ids: &[1, 2], addresses: &self.addresses }
+    }
+
+    fn is_refused(&self, refusal: Refusal) -> String {
+        format!("{} is refused: {refusal}", self.name)
+    }
+}
+
+fn load(filter: &Filter, flags: Flags, perf_map: bool) -> Outcome<PageFunction> {
     let (mut page, mut text) = (Page::new(), [0; MAP_ENOUGH]);
-    let addresses = [is_subscribed_entry as *const () as u64, mix_entry as *const () as u64];
-    let helpers = Helpers { ids: &[1, 2], addresses: &addresses };
-    let program = read(name)?;
+    let Filter { name, program, .. } = filter;
     let at = mapping(name)?;
-    let map = page.translate_mapped(&program, flags, helpers, at as u64, &mut text);
-    let map = map.map_err(|refusal| format!("{name} is refused: {refusal}"))?;
+    let map = page.translate_mapped(program, flags, filter.helpers(), at as u64, &mut text);
+    let map = map.map_err(|refusal| filter.is_refused(refusal))?;
     println!("{name}: {} slots, {} bytes of code", program.len() / 8, page.code().len());
     let function = loaded(name, page.code(), at)?;
     if perf_map {
@@ -121,14 +146,40 @@ fn load(name: &str, flags: Flags, perf_map: bool) -> Outcome<PageFunction> {
     Ok(function)
 }
 
+/// A raw page has the second argument in r2, as the model has the packet's
+/// length there.
 fn keeps(page: PageFunction, raw: bool, data: &[u8]) -> bool {
     let mut buffer = data.to_vec();
     buffer.resize(data.len() + RAW_LEAST, 0);
     let start = buffer.as_mut_ptr();
     let mut packet = Packet { data: start, data_end: unsafe { start.add(data.len()) } };
-    let (mbuff, length) =
-        if raw { (ptr::null_mut(), 0) } else { (&mut packet as *mut Packet, size_of::<Packet>()) };
+    let (mbuff, length) = if raw {
+        (ptr::null_mut(), data.len())
+    } else {
+        (&mut packet as *mut Packet, size_of::<Packet>())
+    };
     unsafe { page(mbuff, length, start, data.len(), 0, 0) != 0 }
+}
+
+/// A filter whose packets are run on the model too, and what came of it.
+struct Comparison<'a> {
+    filter: &'a Filter,
+    model: Box<Model>,
+    differ: usize,
+    stopped: usize,
+}
+
+impl Comparison<'_> {
+    fn compare(&mut self, packet: &[u8], keep: bool) -> Outcome<()> {
+        let Filter { program, .. } = self.filter;
+        let ran = self.model.run(program, self.filter.helpers(), CODE_ENOUGH, packet);
+        let ended = ran.map_err(|refusal| self.filter.is_refused(refusal))?;
+        match ended {
+            Ended::Exit(_) => self.differ += (ended.is_kept() != keep) as usize,
+            _ => self.stopped += 1,
+        }
+        Ok(())
+    }
 }
 
 fn read(name: &str) -> Outcome<Vec<u8>> {
@@ -164,13 +215,22 @@ fn packets(pcap: &[u8]) -> Outcome<Vec<&[u8]>> {
 
 /// Once over a pcap's packets, which are numbered from 1, as tcpdump and tshark
 /// number them.
-fn run_once(page: PageFunction, raw: bool, packets: &[&[u8]], shown: bool) {
+fn run_once(
+    page: PageFunction,
+    raw: bool,
+    packets: &[&[u8]],
+    shown: bool,
+    mut model: Option<Comparison>,
+) -> Outcome<()> {
     let (mut kept, mut bytes) = (0, 0);
     if shown {
         println!("packet  length  verdict");
     }
     for (at, packet) in packets.iter().enumerate() {
         let keep = keeps(page, raw, packet);
+        if let Some(model) = &mut model {
+            model.compare(packet, keep)?;
+        }
         kept += keep as usize;
         bytes += if keep { packet.len() } else { 0 };
         if shown {
@@ -180,13 +240,24 @@ fn run_once(page: PageFunction, raw: bool, packets: &[&[u8]], shown: bool) {
     if shown {
         println!("kept {kept} of {} packets, {bytes} bytes", packets.len());
     }
+    if let Some(Comparison { differ, stopped, .. }) = model {
+        println!("on the model {differ} verdicts differ, and {stopped} packets stop it");
+    }
+    Ok(())
 }
 
-fn run(page: PageFunction, raw: bool, name: &str, times: usize) -> Outcome<()> {
+/// The first time with the model, where there is one.
+fn run(
+    page: PageFunction,
+    raw: bool,
+    name: &str,
+    times: usize,
+    model: Option<Comparison>,
+) -> Outcome<()> {
     let pcap = read(name)?;
     let packets = packets(&pcap).map_err(|why| format!("{name}: {why}"))?;
-    (0..times).for_each(|time| run_once(page, raw, &packets, time == 0));
-    Ok(())
+    run_once(page, raw, &packets, true, model)?;
+    (1..times).try_for_each(|_| run_once(page, raw, &packets, false, None))
 }
 
 /// How often: a number from 1 up, of nine digits at the most.
@@ -198,6 +269,7 @@ fn times_of(word: &str) -> Option<usize> {
 /// What the loader is asked for.
 struct Asked {
     flags: Flags,
+    model: bool,
     perf_map: bool,
     times: usize,
     filter: String,
@@ -207,32 +279,43 @@ struct Asked {
 /// None where the words are no way to ask for anything.
 fn asked(mut words: impl Iterator<Item = String>) -> Option<Asked> {
     let mut flags = Flags { use_mbuff: true, ..Flags::default() };
-    let (mut perf_map, mut times) = (false, 1);
+    let (mut model, mut perf_map, mut times) = (false, false, 1);
     let filter = loop {
         let word = words.next()?;
         match word.as_str() {
             "--raw" => flags.use_mbuff = false,
             "--standard" => flags.standard = true,
             "--compact" => flags.compact = true,
+            "--model" => model = true,
             "--perf-map" => perf_map = true,
             "--times" => times = times_of(&words.next()?)?,
             _ => break word,
         }
     };
     let pcap = words.next()?;
-    words.next().is_none().then_some(Asked { flags, perf_map, times, filter, pcap })
+    // The model is of standard mode, and r1 is the packet.
+    let modelled = !flags.use_mbuff && flags.standard;
+    let good = words.next().is_none() && (modelled || !model);
+    good.then_some(Asked { flags, model, perf_map, times, filter, pcap })
+}
+
+fn load_and_run(asked: Asked) -> Outcome<()> {
+    let Asked { flags, model, perf_map, times, filter, pcap } = asked;
+    let filter = Filter::new(filter)?;
+    let page = load(&filter, flags, perf_map)?;
+    let model =
+        model.then(|| Comparison { filter: &filter, model: Box::default(), differ: 0, stopped: 0 });
+    run(page, !flags.use_mbuff, &pcap, times, model)
 }
 
 fn main() -> ExitCode {
-    let Some(Asked { flags, perf_map, times, filter, pcap }) = asked(std::env::args().skip(1))
-    else {
+    let Some(asked) = asked(std::env::args().skip(1)) else {
         eprintln!(
-            "usage: loader [--raw] [--standard] [--compact] [--perf-map] [--times N] FILTER PCAP"
+            "usage: loader [--raw] [--standard] [--compact] [--model] [--perf-map] [--times N] FILTER PCAP"
         );
         return 2.into();
     };
-    let raw = !flags.use_mbuff;
-    match load(&filter, flags, perf_map).and_then(|page| run(page, raw, &pcap, times)) {
+    match load_and_run(asked) {
         Ok(()) => 0.into(),
         Err(sentence) => {
             eprintln!("loader: {sentence}");

@@ -5,7 +5,9 @@
 //! proved; this crate adds Rust's types to it and nothing else. Every program
 //! and every set of buffers gets an answer, and a refusal changes no byte.
 //! [`translate_mapped`] makes besides the map by which perf names the slots:
-//! one call of `libndakoleem_map.a`, which is proved too.
+//! one call of `libndakoleem_map.a`, which is proved too. [`run_packet`] runs the
+//! bytecode itself on one packet, so that a loader can compare what its page
+//! says: one call of `libndakoleem_replay.a`, which is proved as well.
 //!
 //! ```
 //! # fn main() -> Result<(), ndakoleem::Refusal> {
@@ -19,7 +21,8 @@
 //! ```
 //!
 //! [`Page`] owns buffers in which every program finds room; [`translate`] is
-//! lent any. Helpers that are written in Rust want [`helper_entry!`].
+//! lent any. [`Model`] owns those of [`run_packet`]. Helpers that are written in
+//! Rust want [`helper_entry!`].
 
 #![no_std]
 
@@ -29,12 +32,14 @@ compile_error!(
 );
 
 mod helper;
+mod model;
 mod page;
 pub mod raw;
 mod refusal;
 #[cfg(test)]
 mod tests;
 
+pub use model::{run_packet, Ended, Model};
 pub use page::Page;
 pub use refusal::{Reason, Refusal};
 
@@ -68,6 +73,10 @@ pub const MAP_LINE_MAX: usize = 30;
 pub const MAP_ENOUGH: usize = MAP_LINE_MAX * (SLOTS_MAX + 2);
 /// In the table of targets: a jump to the exit.
 pub const EXIT_TARGET: u32 = 1_000_001;
+/// The longest packet in bytes that is run on the model.
+pub const PACKET_MAX: usize = 65_535;
+/// The most slots that such a run takes.
+pub const STEPS_MAX: usize = 65_536;
 
 /// What the filter finds in its registers, whose rules its code follows, and
 /// how its constants are loaded. Callers name the flags that they set, as in

@@ -1,6 +1,6 @@
 //! The static libraries' functions as C sees them. `include/ndakoleem.h`
-//! explains each argument; `crate::translate` and
-//! `crate::translate_mapped` call them safely.
+//! explains each argument; `crate::translate`, `crate::translate_mapped` and
+//! `crate::run_packet` call them safely.
 
 /// The four numbers of an answer, laid out as C's `struct ndakoleem_translation`.
 #[repr(C)]
@@ -21,6 +21,16 @@ pub struct Mapped {
     pub length: usize,
     pub jumps: usize,
     pub text: usize,
+}
+
+/// The four of a packet's run, laid out as C's `struct ndakoleem_ran`.
+#[repr(C)]
+#[derive(Clone, Copy, Debug, PartialEq, Eq)]
+pub struct Ran {
+    pub number: u8,
+    pub slot: usize,
+    pub ended: u8,
+    pub r0: u64,
 }
 
 /// Bytes in which every sentence finds room.
@@ -97,4 +107,26 @@ extern "C" {
         text: *mut u8,
         text_length: usize,
     ) -> Mapped;
+}
+
+// So is this one, for a loader that compares nothing.
+#[link(name = "ndakoleem_replay", kind = "static")]
+extern "C" {
+    /// A packet's run on the model; of what is lent, `copy` and `counts` are
+    /// changed.
+    pub fn ndakoleem_run_packet_1(
+        program: *const u8,
+        program_length: usize,
+        ids: *const u32,
+        ids_length: usize,
+        addresses: *const u64,
+        addresses_length: usize,
+        page: usize,
+        packet: *const u8,
+        packet_length: usize,
+        copy: *mut u8,
+        copy_length: usize,
+        counts: *mut u64,
+        counts_length: usize,
+    ) -> Ran;
 }

@@ -1,5 +1,5 @@
-//! Why a program is not translated, and the sentence that says so. The
-//! sentence is the library's own; it is kept with the refusal, which thereby
+//! Why a program is not translated or not run, and the sentence that says so.
+//! The sentence is the library's own; it is kept with the refusal, which thereby
 //! borrows nothing of the program.
 
 use core::fmt;
@@ -44,13 +44,22 @@ pub enum Reason {
     BaseTooHigh = 15,
     /// With a map: it does not fit into the text buffer.
     TextTooShort = 16,
+    /// Of a capture alone, which nothing here reads: it does not begin with a
+    /// libpcap header.
+    NotPcap = 17,
+    /// Of a run: the packet is longer than [`PACKET_MAX`](crate::PACKET_MAX), or
+    /// than the buffer for its copy.
+    BadRecord = 18,
+    /// Of a run: a call, or a packet load of the mode ABS or IND, which the
+    /// model does not run.
+    NotModelled = 19,
 }
 
 impl Reason {
     /// None for 0, which is no refusal.
     pub(crate) fn of(number: u8) -> Option<Reason> {
         use Reason::*;
-        const ALL: [Reason; 16] = [
+        const ALL: [Reason; 19] = [
             CodeTooShort,
             CodeTooLong,
             ProgramTooLong,
@@ -67,11 +76,14 @@ impl Reason {
             BadTarget,
             BaseTooHigh,
             TextTooShort,
+            NotPcap,
+            BadRecord,
+            NotModelled,
         ];
         number.checked_sub(1).map(|at| ALL[at as usize])
     }
 
-    /// 1 to 16.
+    /// 1 to 19.
     pub fn number(self) -> u8 {
         self as u8
     }
@@ -82,7 +94,7 @@ impl Reason {
 pub struct Refusal {
     /// Why.
     pub reason: Reason,
-    /// The slot that is at fault; 0 for the reasons 1 to 5, 15 and 16, which
+    /// The slot that is at fault; 0 for the reasons 1 to 5 and 15 to 18, which
     /// have none, and the number of slots where the epilogue has no room (13).
     pub slot: usize,
     sentence: [u8; raw::SENTENCE_ENOUGH],

@@ -1,6 +1,6 @@
 //! That the crate hands on what it is given and gives back what it is told:
-//! EXIT's 51 bytes, each buffer behind them, flags, helpers, limits, maps, and
-//! refusals in words. What the library itself answers is proved, and tested elsewhere.
+//! EXIT's 51 bytes, each buffer behind them, flags, helpers, limits, maps, runs,
+//! and refusals in words. What the library itself answers is proved, and tested elsewhere.
 
 extern crate std;
 use std::format;
@@ -14,6 +14,7 @@ use crate::{
 };
 
 mod maps;
+mod models;
 mod numbers;
 
 const EXIT: [u8; 8] = [0x95, 0, 0, 0, 0, 0, 0, 0];
@@ -273,7 +274,7 @@ fn an_unknown_opcode_in_words() {
 
 #[test]
 fn every_number_is_its_reason() {
-    for number in 1..=16 {
+    for number in 1..=19 {
         assert_eq!(Reason::of(number).map(Reason::number), Some(number));
     }
     assert_eq!(Reason::of(0), None);

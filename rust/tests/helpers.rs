@@ -2,27 +2,14 @@
 //! filters that call a helper outside local calls, inside one, and inside two,
 //! by an address that is loaded as in rbpf, and by a compact constant.
 
+mod mapping;
+
 use std::arch::{asm, global_asm};
 use std::hint::black_box;
 
-use ndakoleem::{Flags, Helpers, Page, CODE_MIN};
+use ndakoleem::{Flags, Helpers, Page};
 
-// What the C library has for mappings, on x86-64 Linux.
-const PROT_READ_WRITE: i32 = 3;
-const PROT_READ_EXEC: i32 = 5;
-const MAP_PRIVATE_ANONYMOUS: i32 = 0x22;
-extern "C" {
-    fn mmap(
-        at: *mut u8,
-        length: usize,
-        protection: i32,
-        flags: i32,
-        file: i32,
-        offset: i64,
-    ) -> *mut u8;
-    fn mprotect(at: *mut u8, length: usize, protection: i32) -> i32;
-    fn munmap(at: *mut u8, length: usize) -> i32;
-}
+use mapping::Mapping;
 
 // RSP at its own entry: 8 modulo 16 by the calling convention.
 global_asm!(".globl stack_pointer", "stack_pointer:", "mov rax, rsp", "ret");
@@ -83,18 +70,8 @@ fn called_from(compact: bool, helper: *const ()) -> [u64; 3] {
         let flags = Flags { compact, ..Flags::default() };
         let mut page = Page::new();
         let code = page.translate(&filter(local_calls), flags, helpers).expect("accepted");
-        unsafe {
-            let none = std::ptr::null_mut();
-            let at = mmap(none, CODE_MIN, PROT_READ_WRITE, MAP_PRIVATE_ANONYMOUS, -1, 0);
-            assert_ne!(at as isize, -1);
-            at.copy_from_nonoverlapping(code.as_ptr(), code.len());
-            assert_eq!(mprotect(at, CODE_MIN, PROT_READ_EXEC), 0);
-            let run: extern "sysv64" fn(usize, usize, *const u8, usize, usize, usize) -> u64 =
-                std::mem::transmute(at);
-            let result = run(0, 0, [0].as_ptr(), 0, 0, 0);
-            munmap(at, CODE_MIN);
-            result % 16
-        }
+        let result = Mapping::of(code).function()(0, 0, [0].as_mut_ptr(), 0, 0, 0);
+        result % 16
     })
 }
 

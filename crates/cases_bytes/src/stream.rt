@@ -71,7 +71,7 @@ pub fn fill(fd: i32, buffer: &mut [u8], have: usize, wanted: usize) -> Window
 }
 
 // The window, with `wanted` bytes in it where the stream has them.
-fn widened(fd: i32, buffer: &mut [u8], window: Window, wanted: usize) -> Window
+pub fn widened(fd: i32, buffer: &mut [u8], window: Window, wanted: usize) -> Window
     requires { ⌜ (window .start ≤ window .end) × (window .end ≤ length (now buffer)) ⌝ }
     ensures { λ r. ⌜ (r .start ≤ r .end) × (r .end ≤ length (now (buffer .exit))) ⌝ }
 {

@@ -37,7 +37,8 @@ pub enum Helper {
 // Where a helper is that no address is said of: a page has as many bytes as with one of a Linux program's own functions.
 pub const SOME_ADDRESS: u64 = 0x7f0000000000;
 
-fn is(word: &[u8], name: &[u8]) -> bool
+// Whether a word is the name.
+pub fn is(word: &[u8], name: &[u8]) -> bool
     ensures { λ r. ⌜ r ≡ equal (now (word .entry)) (now (name .entry)) ⌝ }
 {
     check::same(word, name)

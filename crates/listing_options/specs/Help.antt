@@ -5,7 +5,7 @@ use Rattle.jit.specs.Limits.{shortestPage, longestPage, mostHelpers}
 use Rattle.text.specs.Text.{ascii}
 use Rattle.text.specs.Forms.{formed}
 use Rattle.listing_options.specs.declared.options.Program.{Program}
-use Rattle.listing_options.specs.declared.options.Program.the-variants.{Listing, Map, Maps}
+use Rattle.listing_options.specs.declared.options.Program.the-variants.{Listing, Map, Maps, Replay}
 
 abbrev newline : List ℕ
 newline = 0x0a ∷ []
@@ -15,6 +15,7 @@ abbrev pub endOf : Program → (more : List ℕ) → List ℕ
 endOf Listing more = more ++ newline
 endOf Map more = newline
 endOf Maps more = newline
+endOf Replay more = newline
 
 unfoldable pub flagsHelp : Program → List ℕ
 flagsHelp program =
@@ -42,6 +43,7 @@ abbrev pub nameOf : Program → List ℕ
 nameOf Listing = ascii "listing: "
 nameOf Map = ascii "map: "
 nameOf Maps = ascii "maps: "
+nameOf Replay = ascii "replay: "
 
 unfoldable pub complaint : Program → (what word : List ℕ) → List ℕ
 complaint program what word = nameOf program ++ (what ++ (word ++ (ascii " (--help explains the arguments)" ++ newline)))

@@ -26,6 +26,7 @@ fn put_end(out: &mut [u8], at: usize, program: Program, more: &[u8]) -> usize
         }
         Program::Map => put_byte(out, at, b'\n'),
         Program::Maps => put_byte(out, at, b'\n'),
+        Program::Replay => put_byte(out, at, b'\n'),
     }
 }
 
@@ -56,7 +57,7 @@ fn put_flags(out: &mut [u8], at: usize, program: Program) -> usize
     )
 }
 
-fn put_page(out: &mut [u8], at: usize) -> usize
+pub fn put_page(out: &mut [u8], at: usize) -> usize
     ensures { λ r. ⌜ Says out at r pageHelp ⌝ }
 {
     put_form(
@@ -71,7 +72,7 @@ fn put_page(out: &mut [u8], at: usize) -> usize
     )
 }
 
-fn put_helpers(out: &mut [u8], at: usize, program: Program) -> usize
+pub fn put_helpers(out: &mut [u8], at: usize, program: Program) -> usize
     ensures { λ r. ⌜ Says out at r (helpersHelp program) ⌝ }
 {
     let id = put_form(

@@ -36,6 +36,7 @@ pub enum Program {
     Listing,
     Map,
     Maps,
+    Replay,
 }
 
 pub struct Options {
@@ -51,8 +52,8 @@ pub struct Options {
     pub help: bool,
     pub wrong: bool,
     // The word before this one was --page, or --helper.
-    page_next: bool,
-    helper_next: bool,
+    pub page_next: bool,
+    pub helper_next: bool,
 }
 
 pub fn flags_of(options: Options) -> Flags
@@ -71,6 +72,7 @@ fn put_name(line: &mut [u8], program: Program) -> usize
         Program::Listing => put_text(line, 0, b"listing: "),
         Program::Map => put_text(line, 0, b"map: "),
         Program::Maps => put_text(line, 0, b"maps: "),
+        Program::Replay => put_text(line, 0, b"replay: "),
     }
 }
 
@@ -88,7 +90,8 @@ pub fn complain(line: &mut [u8], program: Program, what: &[u8], word: &[u8]) -> 
     end
 }
 
-fn wronged(options: Options, what: &[u8], word: &[u8]) -> Options
+// The options, of which it is said what is wrong with them.
+pub fn wronged(options: Options, what: &[u8], word: &[u8]) -> Options
     ensures { λ r. ⌜ (r .page ≡ options .page) × (r .helpers ≡ options .helpers) ⌝ }
 {
     let program = options.program;
@@ -225,7 +228,8 @@ fn with_option(options: Options, index: usize, word: &[u8]) -> Options
     }
 }
 
-fn with_word(
+// The options with one more word, which is the argument `index`.
+pub fn with_word(
     options: Options,
     index: usize,
     word: &[u8],
@@ -258,7 +262,7 @@ fn with_argument(options: Options, index: usize, ids: &mut [u32], addresses: &mu
 }
 
 // The last word wants another behind it.
-fn complete(options: Options) -> Options
+pub fn complete(options: Options) -> Options
     ensures { λ r. ⌜ (r .page ≡ options .page) × (r .helpers ≡ options .helpers) ⌝ }
 {
     if options.page_next {
@@ -270,18 +274,11 @@ fn complete(options: Options) -> Options
     options
 }
 
-// The options of a program, which are its arguments from number `from` on. What they say is the operating system's; the page is one that there
-// is room for, and the helpers stand at the start of `ids` and `addresses`.
-pub fn read_options(
-    program: Program,
-    from: usize,
-    ids: &mut [u32],
-    addresses: &mut [u64],
-) -> Options
-    ensures { λ r. ⌜ Held r (ids .exit) (addresses .exit) ⌝ }
+// What holds where no word is said.
+pub fn unasked(program: Program) -> Options
+    ensures { λ r. ⌜ (r .page ≤ longestPage + 1) × (r .helpers ≡ 0) ⌝ }
 {
-    let count = os::arg_count();
-    let mut options = Options {
+    Options {
         program,
         use_mbuff: false,
         update_data_ptr: false,
@@ -296,7 +293,21 @@ pub fn read_options(
         wrong: false,
         page_next: false,
         helper_next: false,
-    };
+    }
+}
+
+// The options of a program, which are its arguments from number `from` on. What they say is the operating system's; the page is one that there
+// is room for, and the helpers stand at the start of `ids` and `addresses`.
+pub fn read_options(
+    program: Program,
+    from: usize,
+    ids: &mut [u32],
+    addresses: &mut [u64],
+) -> Options
+    ensures { λ r. ⌜ Held r (ids .exit) (addresses .exit) ⌝ }
+{
+    let count = os::arg_count();
+    let mut options = unasked(program);
     let mut i = from;
     while i < count {
         options = with_argument(options, i, ids, addresses);

@@ -11,13 +11,14 @@ use Rattle.ebpf.specs.Insn.{readAt}
 use Rattle.ebpf.specs.declared.insn.Insn.{Insn}
 use Rattle.ebpf_fields.specs.Fields.{fieldsAt}
 use Rattle.jit.specs.Limits.{shortestPage, longestPage, longestProgram, mostHelpers}
+use Rattle.pcap.specs.Capture.{longestPacket}
 use Rattle.text.specs.Text.{Says, ascii}
 use Rattle.text.proofs.SaysLaws.{stands}
 use Rattle.text.specs.Forms.{formed}
 use Rattle.text.specs.Numerals.{decimal, extended}
 use Rattle.text.proofs.NumeralLaws.{decimal-most, signed-most}
 use Rattle.refusals_text.specs.Sentences.{torn, badRegister, noRoom, targetFrom, badTarget, sizeReason, opcodeReason, slotReason, mapReason}
-use Rattle.refusals_text.specs.Sentences.{placeOf, reasonOf, numberedAs, sentenceOf, sentenceEnough, Sentence}
+use Rattle.refusals_text.specs.Sentences.{replayReason, isOfSlot, placeOf, reasonOf, numberedAs, sentenceOf, sentenceEnough, Sentence}
 
 -- The longest reason is that of refusal 12, here as if src could have 20 digits.
 abbrev reasonMost : ℕ
@@ -81,20 +82,27 @@ map-most : (number : ℕ) → Short (mapReason number)
 unfolding mapReason
 map-most number = either (eqb number 16) _ _ (omega arith) (either (eqb number 15) _ _ (omega arith) (omega arith))
 
+replay-most : (number : ℕ) (i : Insn) → Short (replayReason number i)
+unfolding replayReason
+replay-most number i =
+    either (eqb number 19) _ _ (omega arith)
+    (either (eqb number 18) _ _ (simp length-append (omega (arith, decimal-most longestPacket)))
+    (either (eqb number 17) _ _ (omega arith) (omega arith)))
+
 reason-most : (prog : List ℕ) (number slot : ℕ) → Short (reasonOf prog number slot)
 unfolding reasonOf
 reason-most prog number slot =
     either (ltb number 6) _ _ (size-most prog number)
-    (either (ltb 14 number) _ _ (map-most number) (slot-most prog number slot (fieldsAt prog slot)))
+    (either (ltb 16 number) _ _ (replay-most number (fieldsAt prog slot))
+    (either (ltb 14 number) _ _ (map-most number) (slot-most prog number slot (fieldsAt prog slot))))
 
 place-most : (number slot : ℕ) → length (placeOf number slot) ≤ 27
 unfolding placeOf
-place-most number slot = by (ltb number 6) (ltb 14 number)
+place-most number slot = by (isOfSlot number)
   where
-    by : (t u : Bool) → length (pick t [] (pick u [] (formed (ascii "slot #: ") (slot ∷ [])))) ≤ 27
-    by true u = omega arith
-    by false true = omega arith
-    by false false = simp length-append (omega (arith, decimal-most slot))
+    by : (t : Bool) → length (pick t (formed (ascii "slot #: ") (slot ∷ [])) []) ≤ 27
+    by true = simp length-append (omega (arith, decimal-most slot))
+    by false = omega arith
 
 numbered-most : (number : ℕ) → length (numberedAs number) ≤ 31
 unfolding numberedAs
@@ -110,7 +118,7 @@ enough prog number slot =
 
 -- 126 of them are needed: refusal 12 at the last slot that can be named.
 pub needed : length (sentenceOf [] 12 0xffffffffffffffff) ≡ 126
-unfolding placeOf reasonOf slotReason opcodeReason numberedAs fieldsAt readAt decimal
+unfolding isOfSlot placeOf reasonOf slotReason opcodeReason numberedAs fieldsAt readAt decimal
 needed = refl
 
 -- with it, a text that is said is a sentence

@@ -1,6 +1,7 @@
 -- A refusal in words: where, why, and its number. Where the program itself shows the fact, the sentence has it. At the end stands what
 -- `sentence` promises.
 use mathlib.Core.Path.{_≡_}
+use mathlib.Core.Bool.{Bool, true, false}
 use mathlib.Core.List.{List, [], _∷_, _++_}
 use Prim.Native.Nat.{ℕ, _+_, _/_, _%_, _^_, _≤_}
 use lib.Dec.{ltb, leb, eqb}
@@ -10,6 +11,7 @@ use Rattle.base.specs.Cases.{Arm, _⇒_, cases}
 use Rattle.ebpf.specs.declared.insn.Insn.{Insn}
 use Rattle.ebpf_fields.specs.Fields.{fieldsAt}
 use Rattle.jit.specs.Limits.{shortestPage, longestPage, longestProgram, mostHelpers}
+use Rattle.pcap.specs.Capture.{longestPacket}
 use Rattle.text.specs.Text.{Says, ascii}
 use Rattle.text.specs.Numerals.{extended}
 use Rattle.text.specs.Forms.{formed}
@@ -43,7 +45,7 @@ badTarget prog slot i =
     (formed (ascii "a local call to slot ~, the program ends at #") (targetFrom slot (i .imm) ∷ length prog / 8 ∷ []))
     (formed (ascii "a jump to slot ~, the program ends at #") (targetFrom slot (i .off) ∷ length prog / 8 ∷ []))
 
--- The table of docs/REFUSALS.md: 1 to 5, which are of no slot, 6 to 14, and 15 and 16, which are of no slot either.
+-- The table of docs/REFUSALS.md: 1 to 5, 6 to 14, 15 and 16 of the page's map, and 17 to 19 of a replay.
 abbrev pub sizeReasons : List ℕ → List (Arm (List ℕ))
 sizeReasons prog =
     5 ⇒ formed (ascii "the helper lists differ in length, are longer than #, or hold an id twice") (mostHelpers ∷ [])
@@ -87,13 +89,28 @@ mapReasons =
 unfoldable pub mapReason : ℕ → List ℕ
 mapReason number = cases mapReasons noReason number
 
--- refusals 1 to 5, and those of the map, are of no slot
+abbrev pub replayReasons : Insn → List (Arm (List ℕ))
+replayReasons i =
+    19 ⇒ formed (ascii "opcode 0x@ is not replayed: calls, and packet loads of the modes ABS and IND, are not run") (i .opc ∷ [])
+    ∷ 18 ⇒ formed (ascii "a packet's record in the capture is cut short, or says more than # bytes") (longestPacket ∷ [])
+    ∷ 17 ⇒ ascii "the capture does not begin with the header of a libpcap file"
+    ∷ []
+
+unfoldable pub replayReason : ℕ → Insn → List ℕ
+replayReason number i = cases (replayReasons i) noReason number
+
+-- 6 to 14 are of a slot, and 19
+unfoldable pub isOfSlot : ℕ → Bool
+isOfSlot number = pick (ltb number 6) false (pick (ltb 14 number) (eqb number 19) true)
+
 unfoldable pub placeOf : ℕ → ℕ → List ℕ
-placeOf number slot = pick (ltb number 6) [] (pick (ltb 14 number) [] (formed (ascii "slot #: ") (slot ∷ [])))
+placeOf number slot = pick (isOfSlot number) (formed (ascii "slot #: ") (slot ∷ [])) []
 
 unfoldable pub reasonOf : List ℕ → ℕ → ℕ → List ℕ
 reasonOf prog number slot =
-    pick (ltb number 6) (sizeReason prog number) (pick (ltb 14 number) (mapReason number) (slotReason prog number slot (fieldsAt prog slot)))
+    pick (ltb number 6) (sizeReason prog number)
+    (pick (ltb 16 number) (replayReason number (fieldsAt prog slot))
+    (pick (ltb 14 number) (mapReason number) (slotReason prog number slot (fieldsAt prog slot))))
 
 unfoldable pub numberedAs : ℕ → List ℕ
 numberedAs number = formed (ascii " (refusal #)") (number ∷ [])

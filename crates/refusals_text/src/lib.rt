@@ -3,7 +3,8 @@
 ghost use mathlib.Core.Path.{_≡_};
 ghost use Rattle.text.specs.Lent.{Says, given};
 ghost use Rattle.refusals_text.specs.Sentences.{torn, badRegister, noRoom, targetFrom, badTarget};
-ghost use Rattle.refusals_text.specs.Sentences.{placeOf, sizeReason, opcodeReason, slotReason, mapReason, reasonOf};
+ghost use Rattle.refusals_text.specs.Sentences.{isOfSlot, placeOf, sizeReason, opcodeReason, slotReason};
+ghost use Rattle.refusals_text.specs.Sentences.{mapReason, replayReason, reasonOf};
 ghost use Rattle.refusals_text.specs.Lent.{Sentence};
 use ebpf::constants::CALL;
 use ebpf::constants::INSN_SIZE;
@@ -21,6 +22,8 @@ const LONGEST_PAGE: u64 = jit::LONGEST_PAGE as u64;
 const LONGEST_PROGRAM: u64 = jit::LONGEST_PROGRAM as u64;
 
 const MOST_HELPERS: u64 = jit::MOST_HELPERS as u64;
+
+const LONGEST_PACKET: u64 = pcap::LONGEST_PACKET as u64;
 
 fn put_torn(out: &mut [u8], at: usize, prog: &[u8], slot: usize) -> usize
     ensures { λ r. ⌜ Says out at r (torn (given prog) slot) ⌝ }
@@ -94,17 +97,26 @@ fn put_bad_target(out: &mut [u8], at: usize, prog: &[u8], slot: usize, insn: Ins
     )
 }
 
-// Refusals 1 to 5, and those of the map, are of no slot.
+// 6 to 14, and 19; the others are of no slot.
+fn is_of_slot(number: u8) -> bool
+    ensures { λ r. ⌜ r ≡ isOfSlot number ⌝ }
+{
+    if number < 6 {
+        return false;
+    }
+    if 14 < number {
+        return number == 19;
+    }
+    true
+}
+
 fn put_place(out: &mut [u8], at: usize, number: u8, slot: usize) -> usize
     ensures { λ r. ⌜ Says out at r (placeOf number slot) ⌝ }
 {
-    if number < 6 {
-        return at;
+    if is_of_slot(number) {
+        return put_form(out, at, b"slot #: ", &[slot as u64]);
     }
-    if 14 < number {
-        return at;
-    }
-    put_form(out, at, b"slot #: ", &[slot as u64])
+    at
 }
 
 // Refusals 1 to 5.
@@ -215,16 +227,46 @@ fn put_map_reason(out: &mut [u8], at: usize, number: u8) -> usize
     }
 }
 
+// Refusals 17 to 19, of a replay.
+fn put_replay_reason(out: &mut [u8], at: usize, number: u8, insn: Insn) -> usize
+    ensures { λ r. ⌜ Says out at r (replayReason number insn) ⌝ }
+{
+    let opc = insn.opc as u64;
+    match number {
+        17 => put_text(
+            out,
+            at,
+            b"the capture does not begin with the header of a libpcap file",
+        ),
+        18 => put_form(
+            out,
+            at,
+            b"a packet's record in the capture is cut short, or says more than # bytes",
+            &[LONGEST_PACKET],
+        ),
+        19 => put_form(
+            out,
+            at,
+            b"opcode 0x@ is not replayed: calls, and packet loads of the modes ABS and IND, are not run",
+            &[opc],
+        ),
+        _ => put_text(out, at, b"refused for a reason that has no name"),
+    }
+}
+
 fn put_reason(out: &mut [u8], at: usize, prog: &[u8], number: u8, slot: usize) -> usize
     ensures { λ r. ⌜ Says out at r (reasonOf (given prog) number slot) ⌝ }
 {
     if number < 6 {
         return put_size_reason(out, at, prog, number);
     }
+    let insn = fields_at(prog, slot);
+    if 16 < number {
+        return put_replay_reason(out, at, number, insn);
+    }
     if 14 < number {
         return put_map_reason(out, at, number);
     }
-    let insn = fields_at(prog, slot);
     put_slot_reason(out, at, prog, number, slot, insn)
 }
 

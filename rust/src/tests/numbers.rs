@@ -13,11 +13,20 @@ use std::vec::Vec;
 
 use crate::raw::SENTENCE_ENOUGH;
 use crate::{
-    JumpKind, Reason, CODE_ENOUGH, CODE_LONGEST, CODE_MAX, CODE_MIN, EXIT_TARGET, FRAME_CODE_MAX,
-    HELPERS_MAX, MAP_ENOUGH, MAP_LINE_MAX, PROGRAM_MAX, SLOTS_MAX, SLOT_CODE_MAX, TABLE_ENOUGH,
+    Ended, JumpKind, Reason, CODE_ENOUGH, CODE_LONGEST, CODE_MAX, CODE_MIN, EXIT_TARGET,
+    FRAME_CODE_MAX, HELPERS_MAX, MAP_ENOUGH, MAP_LINE_MAX, PACKET_MAX, PROGRAM_MAX, SLOTS_MAX,
+    SLOT_CODE_MAX, STEPS_MAX, TABLE_ENOUGH,
 };
 
 const HEADER: &str = include_str!("../../../include/ndakoleem.h");
+
+/// The ends of a run, by their names in the header.
+const ENDS: [(&str, Ended); 4] = [
+    ("EXIT", Ended::Exit(0)),
+    ("STEP_LIMIT", Ended::StepLimit),
+    ("ACCESS", Ended::Access),
+    ("NO_SLOT", Ended::NoSlot),
+];
 
 /// The numbers of a text, by their names.
 type Numbers = BTreeMap<String, usize>;
@@ -138,18 +147,23 @@ fn the_header_has_the_same_numbers() {
     says("MAP_ENOUGH", MAP_ENOUGH);
     says("HELPERS_MAX", HELPERS_MAX);
     says("EXIT_TARGET", EXIT_TARGET as usize);
+    says("PACKET_MAX", PACKET_MAX);
+    says("STEPS_MAX", STEPS_MAX);
     says("SENTENCE_ENOUGH", SENTENCE_ENOUGH);
     says("ACCEPTED", 0);
-    for number in 1..=16 {
+    for number in 1..=19 {
         says(&in_c(Reason::of(number).expect("a reason")), number as usize);
     }
     for number in 1..=3 {
         let kind = in_c(JumpKind::of(number).expect("a kind"));
         says(&format!("JUMP_{kind}"), number as usize);
     }
+    for (end, ended) in ENDS {
+        says(&format!("ENDED_{end}"), ended.number() as usize);
+    }
     // No number of the header is left out above.
     let named = header.keys().filter(|name| name.starts_with("NDAKOLEEM_"));
-    assert_eq!(named.count(), 14 + 17 + 3);
+    assert_eq!(named.count(), 16 + 20 + 3 + 4);
 }
 
 #[test]
@@ -183,5 +197,23 @@ fn the_definitions_of_maps_have_the_same_numbers() {
         ("numberOf TextTooShort", Reason::TextTooShort as usize),
     ] {
         assert_eq!(mapping.get(name), Some(&number), "{name}");
+    }
+}
+
+#[test]
+fn the_definitions_of_runs_have_the_same_numbers() {
+    let replay = definitions(&["pcap", "replay", "ndakoleem_replay"]);
+    for (name, number) in [
+        ("longestPacket", PACKET_MAX),
+        ("stepLimit", STEPS_MAX),
+        ("numberOf NotPcap", Reason::NotPcap as usize),
+        ("numberOf BadRecord", Reason::BadRecord as usize),
+        ("numberOf (NotModelled s)", Reason::NotModelled as usize),
+        ("endedOf (Exit r0)", Ended::Exit(0).number() as usize),
+        ("endedOf StepLimit", Ended::StepLimit.number() as usize),
+        ("endedOf Access", Ended::Access.number() as usize),
+        ("endedOf NoSlot", Ended::NoSlot.number() as usize),
+    ] {
+        assert_eq!(replay.get(name), Some(&number), "{name}");
     }
 }

@@ -24,6 +24,12 @@ enum-told-3 c = search needs
 put-byte-requires-3 : tie.Need-put-byte-requires-3
 put-byte-requires-3 c κs = search needs
 
+enum-told-4 : tie.Need-enum-told-4
+enum-told-4 c = search needs
+
+put-byte-requires-4 : tie.Need-put-byte-requires-4
+put-byte-requires-4 c κs = search needs
+
 same-length : tie.Need-same-length
 same-length c = search needs
 
@@ -44,6 +50,12 @@ same-length-3 c = search needs
 returns-3 : tie.Need-returns-3
 returns-3 c = same (c .before .before .put-byte3 .ensures) (rw (c .before .before .before .before .enum-told3 .given .1))
 
+same-length-4 : tie.Need-same-length-4
+same-length-4 c = search needs
+
+returns-4 : tie.Need-returns-4
+returns-4 c = same (c .before .before .put-byte4 .ensures) (rw (c .before .before .before .before .enum-told4 .given .1))
+
 pub put-end-spec : {M : Type 1} → statement M
 put-end-spec =
     tie.close
@@ -55,9 +67,13 @@ put-end-spec =
     put-byte-requires-2
     enum-told-3
     put-byte-requires-3
+    enum-told-4
+    put-byte-requires-4
     same-length
     returns
     same-length-2
     returns-2
     same-length-3
-    returns-3)
+    returns-3
+    same-length-4
+    returns-4)

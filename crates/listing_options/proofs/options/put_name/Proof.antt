@@ -30,6 +30,15 @@ slice-aggregate-put-text-3 c = search needs
 put-text-requires-3 : tie.Need-put-text-requires-3
 put-text-requires-3 c κs = search needs
 
+enum-told-4 : tie.Need-enum-told-4
+enum-told-4 c = search needs
+
+slice-aggregate-put-text-4 : tie.Need-slice-aggregate-put-text-4
+slice-aggregate-put-text-4 c = search needs
+
+put-text-requires-4 : tie.Need-put-text-requires-4
+put-text-requires-4 c κs = search needs
+
 same-length : tie.Need-same-length
 same-length c = search needs
 
@@ -48,6 +57,12 @@ same-length-3 c = search needs
 returns-3 : tie.Need-returns-3
 returns-3 c = same (c .before .before .put-text3 .ensures) (rw (c .before .before .before .before .before .enum-told3 .given .1))
 
+same-length-4 : tie.Need-same-length-4
+same-length-4 c = search needs
+
+returns-4 : tie.Need-returns-4
+returns-4 c = same (c .before .before .put-text4 .ensures) (rw (c .before .before .before .before .before .enum-told4 .given .1))
+
 pub put-name-spec : {M : Type 1} → statement M
 put-name-spec =
     tie.close
@@ -61,9 +76,14 @@ put-name-spec =
     enum-told-3
     slice-aggregate-put-text-3
     put-text-requires-3
+    enum-told-4
+    slice-aggregate-put-text-4
+    put-text-requires-4
     same-length
     returns
     same-length-2
     returns-2
     same-length-3
-    returns-3)
+    returns-3
+    same-length-4
+    returns-4)

@@ -18,6 +18,9 @@ abbrev μ-loop : tie.MeasureT-loop
 arg-count-requires : tie.Need-arg-count-requires Inv-loop μ-loop
 arg-count-requires c κs = search needs
 
+unasked-requires : tie.Need-unasked-requires Inv-loop μ-loop
+unasked-requires c κs = search needs
+
 loop-holds : tie.Need-loop-holds Inv-loop μ-loop
 loop-holds c = search needs
 
@@ -52,6 +55,7 @@ read-options-spec =
     Inv-loop
     μ-loop
     arg-count-requires
+    unasked-requires
     loop-holds
     with-argument-requires
     add-i

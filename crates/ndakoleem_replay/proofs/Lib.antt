@@ -1,0 +1,2 @@
+pub mod ExportedRunLaws
+pub mod Useless

@@ -1,0 +1,2 @@
+pub mod ExportedRun
+pub mod Lent

@@ -1,0 +1,2 @@
+-- The laws of a run, turn by turn (RunningLaws).
+pub mod RunningLaws
