@@ -10,7 +10,7 @@ use jit::{Flags, Mode};
 
 // What a case asks for, all lengths as it has them. The program is the rest of the body, from `program` on. Where there is a problem,
 // all are 0.
-#[derive(Drop)]
+#[derive(Clone, Copy)]
 pub struct Case {
     pub problem: Problem,
     pub use_mbuff: bool,

@@ -7,7 +7,7 @@ use crate::numbers;
 use cases_problems::Problem;
 
 // The bytes of the buffer that are read and not yet used.
-#[derive(Drop)]
+#[derive(Clone, Copy)]
 pub struct Window {
     pub start: usize,
     pub end: usize,
@@ -16,7 +16,7 @@ pub struct Window {
 }
 
 // A record's place in the buffer, behind its length, and the end of what is read. Where there is a problem, all are 0.
-#[derive(Drop)]
+#[derive(Clone, Copy)]
 pub struct Record {
     pub problem: Problem,
     pub at: usize,

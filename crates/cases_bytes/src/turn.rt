@@ -4,7 +4,7 @@ ghost use Rattle.std.specs.Prelude.{◌≡◌};
 use cases_problems::Problem;
 
 // Whether the loop goes on, and what is there of the next records.
-#[derive(Drop)]
+#[derive(Clone, Copy)]
 pub struct Turn {
     pub goes_on: bool,
     pub start: usize,

@@ -1,4 +1,7 @@
 // What can be wrong with a stream, a case or what the translator did, and the sentence that says so.
+
+#![tactic(auto)]
+
 ghost use Rattle.std.specs.Prelude.{◌≡◌, min, eqb, length};
 ghost use Rattle.text.specs.Lent.{Says};
 ghost use Rattle.cases_problems.specs.Problems.{problem_number, why_of};
@@ -8,7 +11,7 @@ use libc::STDERR_FILENO;
 use text::number::put_decimal;
 use text::text::{put_byte, put_text};
 
-#[derive(Drop)]
+#[derive(Clone, Copy)]
 pub enum Problem {
     Nothing,
     // The stream is over, between two records.

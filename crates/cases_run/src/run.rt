@@ -12,7 +12,7 @@ use jit::{Flags, Mode, Refusal};
 use jit_translate::translate::{Answer, translate};
 
 // How many bytes the answer is; 0 where there is a problem.
-#[derive(Drop)]
+#[derive(Clone, Copy)]
 pub struct Reply {
     pub problem: Problem,
     pub size: usize,
@@ -300,7 +300,7 @@ fn run_body(
 }
 
 // A stream's next case, read and run: the window behind it and how many bytes its answer is.
-#[derive(Drop)]
+#[derive(Clone, Copy)]
 pub struct Done {
     pub problem: Problem,
     pub start: usize,

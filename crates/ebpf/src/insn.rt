@@ -7,7 +7,7 @@ use crate::constants::INSN_SIZE;
 use base::Slot;
 
 // The fields of a slot (RFC 9669, section 3.1). `off` is extended to 32 bits; `off` and `imm` are two's complement.
-#[derive(Drop)]
+#[derive(Clone, Copy)]
 pub struct Insn {
     pub opc: u8,
     pub dst: u8,
@@ -17,7 +17,7 @@ pub struct Insn {
 }
 
 // What reading a slot finds.
-#[derive(Drop)]
+#[derive(Clone, Copy)]
 pub enum Read {
     // Its eight bytes, taken apart.
     Whole(Insn),
@@ -96,7 +96,7 @@ pub fn get_insn(prog: &[u8], slot: Slot) -> Read
 }
 
 // What is behind the last whole slot.
-#[derive(Drop)]
+#[derive(Clone, Copy)]
 pub enum Tail {
     Nothing,
     // Fewer than the eight bytes of a slot.

@@ -7,13 +7,13 @@ use crate::constants;
 use base::{Size, Width};
 
 // Where the second operand comes from: BPF_K, the immediate, or BPF_X, the register src.
-#[derive(Drop)]
+#[derive(Clone, Copy)]
 pub enum Source {
     Imm,
     Reg,
 }
 
-#[derive(Drop)]
+#[derive(Clone, Copy)]
 pub enum AluOp {
     Add,
     Sub,
@@ -22,21 +22,21 @@ pub enum AluOp {
     Xor,
 }
 
-#[derive(Drop)]
+#[derive(Clone, Copy)]
 pub enum ShiftOp {
     Lsh,
     Rsh,
     Arsh,
 }
 
-#[derive(Drop)]
+#[derive(Clone, Copy)]
 pub enum MulOp {
     Mul,
     Div,
     Mod,
 }
 
-#[derive(Drop)]
+#[derive(Clone, Copy)]
 pub enum Condition {
     Jeq,
     Jgt,
@@ -52,7 +52,7 @@ pub enum Condition {
 }
 
 // The kinds that are translated, 120 opcodes in all. The names are those of rbpf's src/ebpf.rs, less what the fields say.
-#[derive(Drop)]
+#[derive(Clone, Copy)]
 pub enum Kind {
     LdAbs(Size),
     LdInd(Size),
@@ -73,7 +73,7 @@ pub enum Kind {
     Exit,
 }
 
-#[derive(Drop)]
+#[derive(Clone, Copy)]
 pub enum Lookup {
     Known(Kind),
     // ST_W_XADD, ST_DW_XADD, TAIL_CALL: rbpf's src/ebpf.rs names them, and its src/jit.rs does not translate them.

@@ -1,5 +1,8 @@
 // The fields of a slot for those who show it, whether its bytes are there or not: `ebpf_text` lists it,
 // `refusals_text` says what is wrong.
+
+#![tactic(auto)]
+
 ghost use Rattle.std.specs.Prelude.{◌≡◌};
 ghost use Rattle.ebpf_fields.specs.Fields.{fields_at};
 

@@ -1,5 +1,8 @@
 // The statements of e_bPF assembler, one function for each form: a binary operation with a given operator, a load, a store, a jump, a
 // call, as llvm-objdump writes them. specs/Statements.antt has each text. Which statement a slot is, `ebpf_text` says.
+
+#![tactic(auto)]
+
 ghost use Rattle.std.specs.Prelude.{◌≡◌};
 ghost use Rattle.base.specs.Widths.{size_bits};
 ghost use Rattle.text.specs.Lent.{Says, given};

@@ -1,5 +1,8 @@
 // A slot of the program in assembler, as llvm-objdump writes e_bPF: `r0 = *(u8 *)(r1 + 12)`, `if r1 == 5 goto +3`. Here its opcode picks the
 // statement and the operator; `ebpf_statements` has the forms. specs/Assembler.antt says each text.
+
+#![tactic(auto)]
+
 ghost use Rattle.std.specs.Prelude.{◌≡◌};
 ghost use Rattle.text.specs.Lent.{Says, given};
 ghost use Rattle.ebpf_statements.specs.Statements.{binary};

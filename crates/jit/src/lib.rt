@@ -1,4 +1,7 @@
 // What the translator is asked and what it answers: the flags, the mode, and every reason to refuse. What it has to give is in specs/.
+
+#![tactic(auto)]
+
 use base::Slot;
 use ebpf::constants::PROG_MAX_INSNS;
 
@@ -29,7 +32,7 @@ pub const LONG_SLOT: usize = 42;
 pub const EPILOGUE_SIZE: usize = 16;
 
 // `use_mbuff` and `update_data_ptr` of the Rust: which of the three prologues is written.
-#[derive(Drop)]
+#[derive(Clone, Copy)]
 pub struct Flags {
     pub use_mbuff: bool,
     pub update_data_ptr: bool,
@@ -37,14 +40,14 @@ pub struct Flags {
 
 // Which code the slots get: the Rust's, unless one of these is set. With `standard` it is that of RFC 9669 where the Rust parts from it
 // (specs/Slots.antt); with `compact` constants of 0 to 4,294,967,295 take fewer bytes (specs/Constants.antt).
-#[derive(Drop)]
+#[derive(Clone, Copy)]
 pub struct Mode {
     pub standard: bool,
     pub compact: bool,
 }
 
 // Why a program is not translated, and at which slot. The number of each is in specs/Refusals.antt.
-#[derive(Drop)]
+#[derive(Clone, Copy)]
 pub enum Refusal {
     // The code buffer is below SHORTEST_PAGE bytes, or above LONGEST_PAGE.
     PageTooShort,
@@ -75,14 +78,14 @@ pub enum Refusal {
 }
 
 // A helper's address, where its id is listed.
-#[derive(Drop)]
+#[derive(Clone, Copy)]
 pub enum Helper {
     Address(u64),
     Missing,
 }
 
 // The slot of the first jump that goes nowhere, if there is one.
-#[derive(Drop)]
+#[derive(Clone, Copy)]
 pub enum Bad {
     Nowhere,
     At(Slot),

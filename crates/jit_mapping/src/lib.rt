@@ -1,4 +1,7 @@
 // A page with its map: `translate`, and beside the page the text by which perf names its bytes. Here are the answers; `mapped` has the function.
+
+#![tactic(auto)]
+
 ghost use Rattle.std.specs.Prelude.{◌≡◌};
 ghost use Rattle.jit_mapping.specs.Refusals.{number_of, slot_of};
 
@@ -12,7 +15,7 @@ pub mod write;
 pub const LONGEST_LINE: usize = 30;
 
 // Why there is no page and no map. The number of each is in specs/Refusals.antt.
-#[derive(Drop)]
+#[derive(Clone, Copy)]
 pub enum Refusal {
     // The program is not translated.
     Translation(Untranslated),
@@ -23,7 +26,7 @@ pub enum Refusal {
 }
 
 // Accepted: how many bytes of code, entries of the jump tables and bytes of text there are.
-#[derive(Drop)]
+#[derive(Clone, Copy)]
 pub enum Answer {
     Accepted {
         length: usize,

@@ -24,7 +24,7 @@ use jit_translate::translate;
 use jit_walk::verdict::Verdict;
 
 // Whether there is a map, and if not, why.
-#[derive(Drop)]
+#[derive(Clone, Copy)]
 pub enum Fit {
     Fits,
     Not(Refusal),

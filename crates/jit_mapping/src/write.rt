@@ -11,7 +11,7 @@ use map::line::put_line;
 use text::digits::{PAIRS, Width, one_digit, widen};
 
 // The piece whose end is not known yet, where it begins in the page, where its line begins in the text, and how wide the addresses are so far.
-#[derive(Drop)]
+#[derive(Clone, Copy)]
 pub struct Open {
     pub piece: Piece,
     pub from: usize,

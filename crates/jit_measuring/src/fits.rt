@@ -19,7 +19,7 @@ use jit_walk::operand;
 
 // What a look at a slot finds: its refusal, a slot that is translated, to SHORT_SLOT bytes at most, to LONG_SLOT (division and calls), or with
 // the next slot as its second half; or a jump that goes nowhere.
-#[derive(Drop)]
+#[derive(Clone, Copy)]
 pub enum Glance {
     Stop(Refusal),
     Narrow,
@@ -28,7 +28,7 @@ pub enum Glance {
     Lost,
 }
 
-#[derive(Drop)]
+#[derive(Clone, Copy)]
 pub enum Fit {
     Sure,
     Unsure,

@@ -27,7 +27,7 @@ const JMP_SIZE: usize = 5;
 const JCC_SIZE: usize = 6;
 
 // What comes behind a slot: the following one; the one behind its second half; the following one, though its jump goes nowhere.
-#[derive(Drop)]
+#[derive(Clone, Copy)]
 pub enum Next {
     Following,
     Wide,
@@ -35,14 +35,14 @@ pub enum Next {
 }
 
 // Whether a slot is translated, how long its code is, and what comes behind it.
-#[derive(Drop)]
+#[derive(Clone, Copy)]
 pub struct Look {
     pub verdict: Verdict,
     pub size: usize,
     pub next: Next,
 }
 
-#[derive(Drop)]
+#[derive(Clone, Copy)]
 pub enum Measured {
     Refused(Refusal),
     Done { end: Position, bad: Bad },

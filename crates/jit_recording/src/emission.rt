@@ -7,7 +7,7 @@ ghost use Rattle.jit_recording.specs.Lent.{Recorded, Recordable, reached};
 
 use base::{Position, Slot};
 
-#[derive(Drop)]
+#[derive(Clone, Copy)]
 pub struct Emission {
     pub at: Position,
     pub jumps: usize,

@@ -1,1 +1,4 @@
 // Demand 3: what the code does when it is read and run. Definitions (specs/) and theorems (proofs/) only.
+
+#![tactic(auto)]
+

@@ -18,7 +18,7 @@ use jit_judging::{judge, sizes};
 use jit_recording::emission::Emission;
 use jit_walk::verdict::Verdict;
 
-#[derive(Drop)]
+#[derive(Clone, Copy)]
 pub enum Answer {
     Accepted { length: usize, jumps: usize },
     Refused(Refusal),

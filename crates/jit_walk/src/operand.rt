@@ -10,7 +10,7 @@ use ebpf::insn;
 use ebpf::insn::{Insn, Read};
 use jit::{Helper, Mode, Refusal};
 
-#[derive(Drop)]
+#[derive(Clone, Copy)]
 pub enum Operand {
     Lacks(Refusal),
     Has(u64),

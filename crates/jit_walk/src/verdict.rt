@@ -1,7 +1,7 @@
 // Whether a slot, or a program, is translated.
 use jit::Refusal;
 
-#[derive(Drop)]
+#[derive(Clone, Copy)]
 pub enum Verdict {
     Good,
     Not(Refusal),

@@ -1,5 +1,8 @@
 // The words that a listing, a map and a translation are asked for with, read: which option a word is and what it adds to the mode, a number,
 // a helper, a base address. What a program does with them stands in listing_options and program_translate.
+
+#![tactic(auto)]
+
 ghost use Rattle.std.specs.Prelude.{◌≡◌, ◌≤◌, ◌<◌};
 ghost use Rattle.listing_arguments.specs.Arguments.{equal, word_of, mode_with, digit_of, number_of, base_of, address_of, helper_of};
 ghost use Rattle.listing_arguments.specs.Arguments.{digits as Arguments·digits};
@@ -8,7 +11,7 @@ ghost use Rattle.listing_arguments.specs.Arguments.{prefixed as Arguments·prefi
 
 use jit::Mode;
 
-#[derive(Drop)]
+#[derive(Clone, Copy)]
 pub enum Word {
     Mbuff,
     UpdateDataPtr,
@@ -24,14 +27,14 @@ pub enum Word {
 }
 
 // A number, or a word that is none.
-#[derive(Drop)]
+#[derive(Clone, Copy)]
 pub enum Number {
     Is(u64),
     Not,
 }
 
 // A helper's id and address, or a word that is none.
-#[derive(Drop)]
+#[derive(Clone, Copy)]
 pub enum Helper {
     Listed(u32, u64),
     Unclear,

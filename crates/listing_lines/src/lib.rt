@@ -1,4 +1,7 @@
 // A line of the listing, written out, and the lines that need no page: the slots of a refused program. listing_table has the others.
+
+#![tactic(auto)]
+
 ghost use Rattle.std.specs.Prelude.{◌≡◌, [], ◌∷◌, ◌+◌, ◌/◌, min, length};
 ghost use Rattle.text.specs.Lent.{Says};
 ghost use Rattle.listing_lines.specs.Lines.{bytecode_line};

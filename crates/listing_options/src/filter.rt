@@ -9,7 +9,7 @@ use libc::STDIN_FILENO;
 // One byte more than a program may have: a longer one is refused for it, however long it is.
 pub const INPUT: usize = LONGEST_PROGRAM + 1;
 
-#[derive(Drop)]
+#[derive(Clone, Copy)]
 pub struct Filter {
     // How many bytes it has, at the start of the buffer that was lent.
     pub length: usize,

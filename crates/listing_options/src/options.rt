@@ -22,7 +22,7 @@ pub const WORD: usize = 32;
 pub const SENTENCE: usize = 4096 + 256;
 
 // Which program is asked.
-#[derive(Drop)]
+#[derive(Clone, Copy)]
 pub enum Program {
     Listing,
     Map,
@@ -30,7 +30,7 @@ pub enum Program {
     Replay,
 }
 
-#[derive(Drop)]
+#[derive(Clone, Copy)]
 pub struct Options {
     pub program: Program,
     pub use_mbuff: bool,

@@ -8,7 +8,7 @@ use crate::options::{Program, SENTENCE, WORD, complain};
 use listing_arguments::{Number, Word, base_of, word_of};
 use text::form::put_form;
 
-#[derive(Drop)]
+#[derive(Clone, Copy)]
 pub enum Base {
     At(u64),
     // The help is asked for instead.

@@ -1,4 +1,7 @@
 // What the flag `compact` saves, in words, below a listing. To know it the program is translated once more, with the flag the other way.
+
+#![tactic(auto)]
+
 ghost use Rattle.std.specs.Prelude.{◌≡◌, ◌+◌, ◌-◌, ◌≤◌};
 ghost use Rattle.jit.specs.Limits.{longest_page};
 ghost use Rattle.text.specs.Lent.{Says, given};

@@ -1,6 +1,9 @@
 // What becomes of a program: its slots, the machine instructions of each as the proved reader reads them from the translated bytes, and
 // where it jumps; or its slots up to the one that is refused, and the reason. All on standard output, but for the reason, which goes where
 // the caller says.
+
+#![tactic(auto)]
+
 ghost use Rattle.jit_translate.specs.Lent.{asked, Translated, Named};
 
 mod table;

@@ -21,7 +21,7 @@ const BYTES: usize = 12;
 const INSTRUCTION: usize = 44;
 
 // What the translator answered of the page.
-#[derive(Drop)]
+#[derive(Clone, Copy)]
 pub struct Totals {
     pub slots: usize,
     pub length: usize,

@@ -1,5 +1,8 @@
 // The translator and the sentences as C sees them: the library that `rt staticlib ndakoleem` writes. It only hands on what it is given and
 // puts the answer into a struct of four numbers, since an enum does not pass the boundary. The declarations for C are include/ndakoleem.h.
+
+#![tactic(auto)]
+
 ghost use Rattle.jit_translate.specs.Lent.{asked, flagged, in_mode};
 ghost use Rattle.ndakoleem.specs.Lent.{Exported};
 ghost use Rattle.refusals_text.specs.Lent.{Sentence};
@@ -9,7 +12,7 @@ use jit_translate::translate::{Answer, translate};
 
 // Accepted: number 0, slot 0, the code's length and the count of jumps. Refused: the number and slot of docs/REFUSALS.md, and 0 for the other two.
 #[repr(C)]
-#[derive(Drop)]
+#[derive(Clone, Copy)]
 pub struct Translation {
     pub number: u8,
     pub slot: usize,

@@ -3,6 +3,9 @@
 // share the functions below them, and the compiler inlines a long function where it has one caller only. As there, it only hands on what it
 // is given and puts the answer into a struct of numbers, since an enum does not pass the boundary. The declarations for C are
 // include/ndakoleem.h.
+
+#![tactic(auto)]
+
 ghost use Rattle.jit_translate.specs.Lent.{asked, flagged, in_mode};
 ghost use Rattle.ndakoleem_map.specs.Lent.{ExportedMap};
 
@@ -13,7 +16,7 @@ use jit_mapping::mapped::translate_mapped;
 // Accepted: number 0, slot 0, the code's length, the count of jumps and the length of the map's text. Refused: the number and slot of
 // docs/REFUSALS.md, and 0 for the other three.
 #[repr(C)]
-#[derive(Drop)]
+#[derive(Clone, Copy)]
 pub struct Mapped {
     pub number: u8,
     pub slot: usize,

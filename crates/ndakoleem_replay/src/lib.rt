@@ -2,6 +2,9 @@
 // that a loader that compares nothing links nothing of it, and its translation costs what it did (crates/ndakoleem_map). It only hands on
 // what it is given and puts the answer into a struct of numbers, since an enum does not pass the boundary. The declarations for C are
 // include/ndakoleem.h.
+
+#![tactic(auto)]
+
 ghost use Rattle.std.specs.Prelude.{◌≡◌};
 ghost use Rattle.ndakoleem_replay.specs.ExportedRun.{ended_of, value_of};
 ghost use Rattle.ndakoleem_replay.specs.Lent.{ExportedRun};
@@ -14,7 +17,7 @@ use replay_text::refusal::{number_of, slot_of};
 // The packet was run: number 0, slot 0, how the run ended (`ended_of`), and r0 where that was EXIT, else 0. Refused: the number and slot of
 // docs/REFUSALS.md, and 0 for the other two.
 #[repr(C)]
-#[derive(Drop)]
+#[derive(Clone, Copy)]
 pub struct RanPacket {
     pub number: u8,
     pub slot: usize,

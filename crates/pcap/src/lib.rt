@@ -1,4 +1,7 @@
 // Classic libpcap captures, read from bytes that nobody vouches for: the header of the file, and what stands at the head of the bytes behind it.
+
+#![tactic(auto)]
+
 ghost use Rattle.std.specs.Prelude.{◌≡◌, ◌+◌, ◌*◌, ◌≤◌, length};
 ghost use Rattle.pcap.specs.Capture.{number_at, is_magic, header_of, record_of};
 
@@ -18,20 +21,20 @@ const MICROSECONDS: u32 = 0xa1b2c3d4;
 const NANOSECONDS: u32 = 0xa1b23c4d;
 
 // In which order the bytes of a number stand: lowest first, or highest first.
-#[derive(Drop)]
+#[derive(Clone, Copy)]
 pub enum Order {
     Little,
     Big,
 }
 
-#[derive(Drop)]
+#[derive(Clone, Copy)]
 pub enum Header {
     Pcap(Order),
     NotPcap,
 }
 
 // What stands at the head of the bytes behind a header.
-#[derive(Drop)]
+#[derive(Clone, Copy)]
 pub enum Record {
     // Nothing.
     End,

@@ -1,5 +1,8 @@
 // Reads cases from standard input and writes the translator's answers to standard output, one for one. What is wrong with the stream,
 // or with what the translator did to what it was lent, is said on standard error and ends the run; the answers before it stand.
+
+#![tactic(auto)]
+
 ghost use Rattle.std.specs.Prelude.{◌≡◌, ◌≤◌, length};
 
 use cases_bytes::{limits, stream};
@@ -13,7 +16,7 @@ const INPUT: usize = 131072;
 const OUTPUT: usize = 262144;
 
 // How many bytes of answers wait to be written.
-#[derive(Drop)]
+#[derive(Clone, Copy)]
 struct Waiting {
     at: usize,
     failed: bool,
@@ -56,7 +59,7 @@ fn say_why(index: u64, wrong: Problem) {
 }
 
 // One case: what is there of the next ones, and how much waits to be written.
-#[derive(Drop)]
+#[derive(Clone, Copy)]
 struct Turn {
     goes_on: bool,
     start: usize,

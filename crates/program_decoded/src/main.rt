@@ -6,6 +6,9 @@
 // For each page: `page N`, where N is the answer's number in the stream, counted from 0; then a line for each instruction: the place of its
 // first byte in hexadecimal, its length in decimal, its text. Where the reader knows no instruction the line ends in `bad`, with the length
 // 0, and it is the page's last.
+
+#![tactic(auto)]
+
 ghost use Rattle.std.specs.Prelude.{◌≤◌, ◌<◌, length};
 
 use cases_bytes::stream::Window;
@@ -28,7 +31,7 @@ const OUTPUT: usize = 65536;
 const LINE: usize = 128;
 
 // How much of the output waits to be written.
-#[derive(Drop)]
+#[derive(Clone, Copy)]
 struct Waiting {
     at: usize,
     failed: bool,
@@ -78,7 +81,7 @@ fn put_bad(out: &mut [u8], at: usize, place: usize) -> usize
 }
 
 // One instruction further: what waits to be written, and the place of the next instruction.
-#[derive(Drop)]
+#[derive(Clone, Copy)]
 struct Step {
     failed: bool,
     at: usize,

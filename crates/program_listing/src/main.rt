@@ -1,5 +1,8 @@
 // Lists what becomes of the bytecode in a file or on standard input: each slot, its place in the page, its machine instructions and where it
 // jumps. A refused program gets its slots up to the refusal; the reason goes to standard error.
+
+#![tactic(auto)]
+
 ghost use Rattle.std.specs.Prelude.{◌+◌, ◌≤◌};
 ghost use Rattle.jit.specs.Limits.{longest_page};
 

@@ -1,6 +1,9 @@
 // Writes perf's map of the page that becomes of the bytecode in a file or on standard input: a line START SIZE NAME for the prologue, for each
 // slot that has code and for the epilogue, of a page that lies at the base address. A refusal writes nothing there and a line on standard
 // error, as `refused 15 0`: its number and its slot.
+
+#![tactic(auto)]
+
 ghost use Rattle.std.specs.Prelude.{◌+◌, ◌≤◌};
 ghost use Rattle.jit.specs.Limits.{longest_page};
 

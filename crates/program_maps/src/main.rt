@@ -2,6 +2,9 @@
 // is the first argument, or the line that tells its refusal. How many bytes are lent for the text is the second argument, where there is one.
 // What it writes of its stored cases is compared in the gate: every refusal of a map, at the last page and text that are taken and at the first
 // that are not.
+
+#![tactic(auto)]
+
 ghost use Rattle.std.specs.Prelude.{◌≤◌, length};
 
 use cases_bytes::answer::put_refused_line;
@@ -30,7 +33,7 @@ const TEXT: usize = LONGEST_LINE * (MOST_SLOTS + 2);
 const LINE: usize = 64;
 
 // What the arguments ask for: where each page lies, and how many bytes are lent for its map.
-#[derive(Drop)]
+#[derive(Clone, Copy)]
 struct Asked {
     base: u64,
     room: usize,

@@ -14,7 +14,7 @@ use replay_capture::Answer;
 use replay_capture::window::replay_window;
 
 // A capture that is open, and what is asked for of it.
-#[derive(Drop)]
+#[derive(Clone, Copy)]
 pub struct Source {
     pub fd: i32,
     pub page: usize,
@@ -25,7 +25,7 @@ pub struct Source {
 }
 
 // What stays the same from window to window.
-#[derive(Drop)]
+#[derive(Clone, Copy)]
 struct Reading {
     fd: i32,
     page: usize,
@@ -35,7 +35,7 @@ struct Reading {
     out: i32,
 }
 
-#[derive(Drop)]
+#[derive(Clone, Copy)]
 enum How {
     GoesOn,
     // The capture has ended behind a record.
@@ -47,7 +47,7 @@ enum How {
 }
 
 // How the replay stands behind a window, and how many bytes of it are left.
-#[derive(Drop)]
+#[derive(Clone, Copy)]
 struct Part {
     how: How,
     totals: Totals,
@@ -55,7 +55,7 @@ struct Part {
 }
 
 // .. and where they are in the buffer.
-#[derive(Drop)]
+#[derive(Clone, Copy)]
 struct Turn {
     how: How,
     totals: Totals,

@@ -42,7 +42,7 @@ pub(crate) fn open_capture(name: &[u8]) -> i32 {
 }
 
 // What becomes of the kept packets.
-#[derive(Drop)]
+#[derive(Clone, Copy)]
 pub enum Kept {
     // They are not asked for.
     Nowhere,

@@ -1,5 +1,8 @@
 // Replays a filter over a capture: which of its packets the filter would have kept, and how often each slot ran. The report goes to standard
 // output. A refusal is a line on standard error, as `refused 17 0`, its number and its slot, and behind it a line that says why.
+
+#![tactic(auto)]
+
 mod capture;
 mod files;
 mod said;

@@ -1,6 +1,9 @@
 // Reads cases from standard input, as the program `answers` does, and writes to standard output what the programs say of each: its listing,
 // with the reason of a refusal, and the line by which `translate` tells a refusal. What it writes of its stored cases is compared in the
 // gate: every form of a slot, of an instruction and of a refusal.
+
+#![tactic(auto)]
+
 ghost use Rattle.std.specs.Prelude.{◌+◌, ◌≤◌, length};
 ghost use Rattle.jit.specs.Limits.{longest_page};
 

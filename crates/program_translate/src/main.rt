@@ -1,6 +1,9 @@
 // Translates the bytecode on standard input for a page of 4,096 bytes, with no helpers and both flags false, and writes the code to
 // standard output; the argument --standard asks for standard mode, --compact for compact constants. A refusal writes nothing there and a
 // line on standard error, as `refused 6 0`: its number and its slot.
+
+#![tactic(auto)]
+
 use cases_bytes::answer::put_refusal_line;
 use cases_bytes::stream;
 use jit::{Flags, LONGEST_PROGRAM, MOST_SLOTS, Mode, Refusal, SHORTEST_PAGE};
@@ -14,7 +17,7 @@ const INPUT: usize = LONGEST_PROGRAM + 1;
 const TABLE: usize = MOST_SLOTS + 1;
 
 // The mode that the arguments ask for, or that one of them is not known.
-#[derive(Drop)]
+#[derive(Clone, Copy)]
 enum Asked {
     For(Mode),
     Unclear,

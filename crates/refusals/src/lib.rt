@@ -1,4 +1,7 @@
 // The number and the slot of a refusal, as the table of docs/REFUSALS.md has them, for whoever has to write them down.
+
+#![tactic(auto)]
+
 ghost use Rattle.std.specs.Prelude.{◌≡◌};
 ghost use Rattle.jit.specs.Refusals.{number_of, slot_of};
 

@@ -1,5 +1,8 @@
 // A refusal in words, as `slot 3: unknown opcode 0x06 (refusal 8)`: where, why, and its number in docs/REFUSALS.md. Whoever tells
 // an operator of a refusal says this sentence; it stands here alone.
+
+#![tactic(auto)]
+
 ghost use Rattle.std.specs.Prelude.{◌≡◌};
 ghost use Rattle.text.specs.Lent.{Says, given};
 ghost use Rattle.refusals_text.specs.Sentences.{torn, bad_register, no_room, target_from, bad_target};

@@ -1,5 +1,8 @@
 // What a filter would have kept: the bytecode itself, run packet by packet. What a run is and what is reported of it is said in specs/; here is
 // what the answers are made of.
+
+#![tactic(auto)]
+
 use base::Slot;
 use jit::Refusal as Untranslated;
 
@@ -13,7 +16,7 @@ pub const STACK_SIZE: usize = 512;
 pub const STEP_LIMIT: u32 = 65536;
 
 // Where an access lies: wholly in the packet or wholly in the stack, so many bytes behind its start, or in neither.
-#[derive(Drop)]
+#[derive(Clone, Copy)]
 pub enum Place {
     Packet(usize),
     Stack(usize),
@@ -22,7 +25,7 @@ pub enum Place {
 
 // How a run ends: EXIT, with what r0 then is; or it is stopped, by the step limit, by an access that lies in neither the packet nor the stack,
 // or where there is no slot to run.
-#[derive(Drop)]
+#[derive(Clone, Copy)]
 pub enum Ended {
     Exit(u64),
     StepLimit,
@@ -31,7 +34,7 @@ pub enum Ended {
 }
 
 // Why a filter is not run over a capture. The number of each is in specs/Refusals.antt.
-#[derive(Drop)]
+#[derive(Clone, Copy)]
 pub enum Refusal {
     // It is not translated in standard mode.
     Translation(Untranslated),
@@ -44,7 +47,7 @@ pub enum Refusal {
 }
 
 // How many packets there were, and how the run of each ended.
-#[derive(Drop)]
+#[derive(Clone, Copy)]
 pub struct Totals {
     pub packets: u64,
     pub kept: u64,

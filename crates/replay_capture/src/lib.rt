@@ -1,5 +1,8 @@
 // A filter over a capture: whether it is run at all (decide), a packet's record (record), the records of a part of a capture (window), a capture
 // that is lent whole (capture), and one packet by itself (packet). What is answered is said in replay's specs/Report.antt.
+
+#![tactic(auto)]
+
 use replay::{Ended, Refusal, Totals};
 
 pub mod capture;
@@ -10,7 +13,7 @@ pub mod totals;
 pub mod window;
 
 // Whether a filter is run, and if not, why.
-#[derive(Drop)]
+#[derive(Clone, Copy)]
 pub enum Decided {
     Runs,
     Not(Refusal),
@@ -18,7 +21,7 @@ pub enum Decided {
 
 // What is answered for a part of a capture: how many bytes of it were whole records, how many bytes the records of kept packets have, and the
 // totals with its packets.
-#[derive(Drop)]
+#[derive(Clone, Copy)]
 pub enum Answer {
     Refused(Refusal),
     Ran {
@@ -29,7 +32,7 @@ pub enum Answer {
 }
 
 // .. and for a capture: the totals; or, where a record is bad, those of the packets before it.
-#[derive(Drop)]
+#[derive(Clone, Copy)]
 pub enum Report {
     Refused(Refusal),
     Whole(Totals),
@@ -37,7 +40,7 @@ pub enum Report {
 }
 
 // .. and for a packet.
-#[derive(Drop)]
+#[derive(Clone, Copy)]
 pub enum Run {
     Refused(Refusal),
     Ended(Ended),

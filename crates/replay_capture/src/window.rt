@@ -15,7 +15,7 @@ use pcap::{Order, RECORD, Record, record_of};
 use replay::Totals;
 
 // How far a part is run: the bytes of its records, those of the kept ones, and the totals.
-#[derive(Drop)]
+#[derive(Clone, Copy)]
 pub struct Progress {
     pub used: usize,
     pub kept: usize,

@@ -13,7 +13,7 @@ use base::Size;
 use replay::Place;
 
 // What a load finds.
-#[derive(Drop)]
+#[derive(Clone, Copy)]
 pub enum Loaded {
     Value(u64),
     // It lies in neither area.

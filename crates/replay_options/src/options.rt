@@ -7,7 +7,7 @@ use listing_arguments::is;
 use listing_options::options;
 use listing_options::options::{Options, Program, unasked};
 
-#[derive(Drop)]
+#[derive(Clone, Copy)]
 pub struct Asked {
     // The page's size, the helpers, and whether the help is asked for or a word is wrong.
     pub options: Options,

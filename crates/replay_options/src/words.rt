@@ -6,7 +6,7 @@ ghost use Rattle.text.specs.Lent.{given};
 
 use listing_arguments::is;
 
-#[derive(Drop)]
+#[derive(Clone, Copy)]
 pub enum Word {
     // The file for the kept packets is the next word.
     WriteNext,

@@ -1,5 +1,8 @@
 // Which slot is there: a table that is made once for a program, of a byte for each slot by which a run goes on from it. Where the slot is run it
 // is the opcode, but for EXIT, so that a run looks at one byte alone; where there is nothing to run it is 0.
+
+#![tactic(auto)]
+
 ghost use Rattle.std.specs.Prelude.{◌≡◌, ◌≤◌, ◌<◌, length};
 ghost use Rattle.jit.specs.Translation.{slots_of};
 ghost use Rattle.jit_walk.specs.Lent.{IsTable};
@@ -98,7 +101,7 @@ pub fn code_slots(kinds: &[u8; 256], prog: &[u8], codes: &mut [u8])
 }
 
 // Whether every slot is one that a run does, and if not, which is the first.
-#[derive(Drop)]
+#[derive(Clone, Copy)]
 pub enum Modelled {
     All,
     Not(Slot),

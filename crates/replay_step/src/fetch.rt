@@ -7,7 +7,7 @@ ghost use Rattle.ebpf_meaning.specs.Values.{immediate};
 use ebpf::insn::read_i32;
 
 // Both registers of a slot.
-#[derive(Drop)]
+#[derive(Clone, Copy)]
 pub struct Registers {
     pub dst: usize,
     pub src: usize,

@@ -13,7 +13,7 @@ use replay_slots::ENDS;
 use replay_values::operand::cut;
 
 // What a slot comes to: the run goes on at a slot, or it ends, with r0, or by an access, or there is nothing to run.
-#[derive(Drop)]
+#[derive(Clone, Copy)]
 pub enum Next {
     Go(usize),
     Exit(u64),
@@ -22,7 +22,7 @@ pub enum Next {
 }
 
 // The same, where a jump's operands are not compared yet: they are compared in one place, whatever their width.
-#[derive(Drop)]
+#[derive(Clone, Copy)]
 pub enum Work {
     Branch(u64, u64),
     Go(usize),

@@ -17,7 +17,7 @@ use text::number::put_decimal;
 use text::text::{put_byte, put_text};
 
 // How many characters a slot's number and how often it ran take.
-#[derive(Drop)]
+#[derive(Clone, Copy)]
 pub struct Columns {
     pub slot: usize,
     pub count: usize,

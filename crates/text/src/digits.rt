@@ -37,7 +37,7 @@ pub const PAIRS: [u16; 256] = [
 ];
 
 // A number of hexadecimal digits, and the largest number that has as many.
-#[derive(Drop)]
+#[derive(Clone, Copy)]
 pub struct Width {
     pub digits: usize,
     pub largest: u64,

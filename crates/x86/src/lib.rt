@@ -2,6 +2,8 @@
 // emitters put together, by name. A wrong one does not check: each emitter's contract says the bytes of an instruction (specs/Encode.antt).
 // What an emitter takes as a parameter is a byte; what it only puts into a word has the word's type.
 
+#![tactic(auto)]
+
 // The registers, under the Rust's names: Intel 64 manual, volume 2, table 3-1.
 pub const RAX: u8 = 0;
 

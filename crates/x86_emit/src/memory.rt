@@ -19,7 +19,7 @@ const STORE: u64 = MOV as u64;
 const STORE_IMM: u64 = GROUP11 as u64;
 
 // ModRM and displacement: the lowest `size` bytes of a word.
-#[derive(Drop)]
+#[derive(Clone, Copy)]
 pub struct Operand {
     pub word: u64,
     pub size: usize,

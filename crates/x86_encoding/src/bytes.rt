@@ -5,19 +5,19 @@ ghost use Rattle.x86_encoding.specs.Lent.{Reads1, Reads2, Reads4, Reads8, ReadsW
 
 use base::Width;
 
-#[derive(Drop)]
+#[derive(Clone, Copy)]
 pub enum Byte {
     End,
     Is(u8, usize),
 }
 
-#[derive(Drop)]
+#[derive(Clone, Copy)]
 pub enum Four {
     End,
     Is(u32, usize),
 }
 
-#[derive(Drop)]
+#[derive(Clone, Copy)]
 pub enum Eight {
     End,
     Is(u64, usize),

@@ -9,7 +9,7 @@ use crate::bytes::{Byte, Four};
 use base::Width;
 
 // REX: whether there is one, the width that W says, and whether R and B are set.
-#[derive(Drop)]
+#[derive(Clone, Copy)]
 pub struct Rex {
     pub there: bool,
     pub width: Width,
@@ -18,14 +18,14 @@ pub struct Rex {
 }
 
 // The REX, the opcode, and the place behind it.
-#[derive(Drop)]
+#[derive(Clone, Copy)]
 pub enum Head {
     End,
     Is(Rex, u8, usize),
 }
 
 // What ModRM says: reg, then a register, or a base register and a displacement; and the place behind it.
-#[derive(Drop)]
+#[derive(Clone, Copy)]
 pub enum Modrm {
     Bad,
     Register(u8, u8, usize),

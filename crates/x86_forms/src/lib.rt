@@ -1,5 +1,8 @@
 // What follows an opcode: the forms of the definition, each read to its end. `at` is the place behind the opcode, or behind ModRM
 // where a form goes on with a constant. Which form an opcode has, x86_reader says.
+
+#![tactic(auto)]
+
 ghost use Rattle.std.specs.Prelude.{◌≡◌, ◌∷◌, ◌/◌};
 ghost use Rattle.base.specs.Widths.{bits};
 ghost use Rattle.x86.specs.Instr.{op, alu, alu_imm, shift_imm, load, store, store_imm, mov_imm, jump};
@@ -16,7 +19,7 @@ use x86_encoding::{bytes, operand};
 use x86_instructions::{Alu, Cond, Instruction, Jump, Read, Shift, size_of};
 
 // reg and a register
-#[derive(Drop)]
+#[derive(Clone, Copy)]
 pub enum Pair {
     Bad,
     Is(u8, u8, usize),

@@ -1,11 +1,14 @@
 // The instructions that the translator writes: the executable twin of crates/x86/specs/Instr.antt, which x86_reader answers and x86_text
 // spells. A register is its machine number, an immediate or a displacement its two's complement.
+
+#![tactic(auto)]
+
 ghost use Rattle.std.specs.Prelude.{◌≡◌};
 ghost use Rattle.x86_instructions.specs.Instructions.{word_of};
 
 use base::{Size, Width};
 
-#[derive(Drop)]
+#[derive(Clone, Copy)]
 pub enum Alu {
     Add,
     Or,
@@ -17,14 +20,14 @@ pub enum Alu {
     Test,
 }
 
-#[derive(Drop)]
+#[derive(Clone, Copy)]
 pub enum Shift {
     Shl,
     Shr,
     Sar,
 }
 
-#[derive(Drop)]
+#[derive(Clone, Copy)]
 pub enum Unary {
     Neg,
     Mul,
@@ -32,7 +35,7 @@ pub enum Unary {
 }
 
 // The conditions of Jcc, as Intel's manual abbreviates them.
-#[derive(Drop)]
+#[derive(Clone, Copy)]
 pub enum Cond {
     Jb,
     Jae,
@@ -46,14 +49,14 @@ pub enum Cond {
     Jg,
 }
 
-#[derive(Drop)]
+#[derive(Clone, Copy)]
 pub enum Jump {
     Jmp,
     Call,
     Jcc(Cond),
 }
 
-#[derive(Drop)]
+#[derive(Clone, Copy)]
 pub enum Instruction {
     Push(u8),
     Pop(u8),
@@ -82,7 +85,7 @@ pub enum Instruction {
 }
 
 // What reading finds.
-#[derive(Drop)]
+#[derive(Clone, Copy)]
 pub enum Read {
     // No instruction that the reader knows, or one that is not all there.
     Bad,

@@ -1,5 +1,8 @@
 // What an instruction works on, as text in Intel syntax: registers, memory, constants, a place to go to. specs/Operands.antt says each
 // text. Which of them an instruction has, `x86_text` says.
+
+#![tactic(auto)]
+
 ghost use Rattle.std.specs.Prelude.{◌≡◌};
 ghost use Rattle.text.specs.Lent.{Says};
 ghost use Rattle.x86_operands.specs.Operands.{constant_of, destination_of, size_text, no_displacement_text, displacement_text, memory_text};

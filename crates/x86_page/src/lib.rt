@@ -1,6 +1,9 @@
 // The page that is lent, and the place of its next byte: the Rust's `JitMemory` and `emit_bytes!`. Each function that makes, takes or
 // returns one is thin, since it is proved by a walk of its MIR by hand; `store_at`, which does the work on slice and place, is covered.
 // `emit_words` stands above them: its parameters are plain, so whoever calls it needs no walk.
+
+#![tactic(auto)]
+
 ghost use Rattle.std.specs.Prelude.{◌≡◌, ◌+◌, ◌≤◌, length};
 ghost use Rattle.x86_page.specs.Emitted.{emitted};
 ghost use Rattle.x86_emit.specs.Lent.{Fits};

@@ -1,4 +1,7 @@
 // The names of the registers, by machine number and size, as objdump -M intel spells them. specs/Registers.antt says each.
+
+#![tactic(auto)]
+
 ghost use Rattle.text.specs.Lent.{Says};
 ghost use Rattle.x86_registers.specs.Registers.{stem_text, byte_text, suffix_text, low_text, register_text};
 
