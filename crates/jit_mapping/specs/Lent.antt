@@ -1,11 +1,11 @@
 -- The contract, of the parameters by their names (base/specs/Lent.antt).
 use Rattle.std.specs.Prelude.{ℕ}
-use Rattle.base.specs.Lent.{Slice, Lent}
+use Rattle.base.specs.Lent.{MutSlice, Lent, MutLent}
 use Rattle.jit.specs.Translation.{Inputs}
 use Rattle.jit_mapping.specs.declared.Answer.{Answer}
 use Rattle.jit_mapping.specs.Mapped as M
 
-abbrev pub lent : (code locations fields targets kinds makers text : Slice) → M.Buffers
+abbrev pub lent : (code locations fields targets kinds makers text : MutSlice) → M.Buffers
 lent code locations fields targets kinds makers text =
     record {
       code = code.now;
@@ -17,7 +17,7 @@ lent code locations fields targets kinds makers text =
       text = text.now;
     }
 
-abbrev pub Mapped : Inputs → (base : ℕ) → (code locations fields targets kinds makers text : Lent) → Answer → Type 0
+abbrev pub Mapped : Inputs → (base : ℕ) → (code locations fields targets kinds makers text : MutLent) → Answer → Type 0
 Mapped x base code locations fields targets kinds makers text r =
     M.Mapped x base
     (lent code.entry locations.entry fields.entry targets.entry kinds.entry makers.entry text.entry)

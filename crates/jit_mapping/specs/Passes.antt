@@ -2,7 +2,7 @@
 -- contract (Lent.antt).
 use Rattle.std.specs.Prelude.{◌≡◌, ℕ, ◌+◌, ◌≤◌, ◌<◌, ◌^◌, Bool, ltb, length, get_or}
 use Rattle.base.specs.declared.Position.{Position}
-use Rattle.base.specs.Lent.{Slice, Lent}
+use Rattle.base.specs.Lent.{Slice, MutSlice, Lent, MutLent}
 use Rattle.code.specs.declared.Piece.{Piece}
 use Rattle.text.specs.Numerals.{hex}
 use Rattle.text.specs.Lent.{Says, IsWidth}
@@ -50,7 +50,7 @@ abbrev pub fit_in : Map → Fit
 fit_in (no r) = Not r
 fit_in (yes text) = Fits
 
-abbrev pub Fitting : Filter → Flags → (code : Slice) → (base : ℕ) → (text : Slice) → Type 0
+abbrev pub Fitting : Filter → Flags → (code : MutSlice) → (base : ℕ) → (text : MutSlice) → Type 0
 Fitting filter flags code base text = fit_of filter flags (length code.now) base (length text.now) ≡ Fits
 
 -- the digits of addresses are counted, up to where a piece begins
@@ -58,10 +58,10 @@ abbrev pub Counted : (base : ℕ) → Open → Type 0
 Counted base begun = IsWidth begun.width × (begun.width.digits ≤ length (hex (base + begun.from)))
 
 -- a piece is closed by an entry that is not 0: there is room for its line, and then the line stands there
-abbrev pub Closing : (text : Slice) → (base : ℕ) → Open → (place : ℕ) → Type 0
+abbrev pub Closing : (text : MutSlice) → (base : ℕ) → Open → (place : ℕ) → Type 0
 Closing text base begun place = R.Closing text.now base begun.piece begun.from begun.next place
 
-abbrev pub Closed : (text : Lent) → (base : ℕ) → Open → (place : ℕ) → (opened : Piece) → (r : Open) → Type 0
+abbrev pub Closed : (text : MutLent) → (base : ℕ) → Open → (place : ℕ) → (opened : Piece) → (r : Open) → Type 0
 Closed text base begun place opened r =
     R.Closed text.entry.now text.exit.now base begun.piece begun.from begun.next place opened r.piece r.from r.next
 
@@ -69,11 +69,11 @@ Closed text base begun place opened r =
 abbrev pub place_at : (locations : Lent) → (n exit k : ℕ) → ℕ
 place_at locations n exit k = get_or (closed_table n exit locations.entry.now) k 0
 
-abbrev pub WithRoom : (locations : Slice) → (n exit base : ℕ) → (text : Slice) → Type 0
+abbrev pub WithRoom : (locations : Slice) → (n exit base : ℕ) → (text : MutSlice) → Type 0
 WithRoom locations n exit base text =
     (n ≤ length locations.now)
     × ((Rising (exit + epilogue_size) 0 (closed_table n exit locations.now))
     × ((base + (exit + epilogue_size) < 2 ^ 64) × (length (text_of (table_lines n base exit locations.now)) ≤ length text.now)))
 
-abbrev pub SaysRows : (locations : Lent) → (n exit base : ℕ) → (text : Lent) → (r : ℕ) → Type 0
+abbrev pub SaysRows : (locations : Lent) → (n exit base : ℕ) → (text : MutLent) → (r : ℕ) → Type 0
 SaysRows locations n exit base text r = Says text 0 r (text_of (table_lines n base exit locations.entry.now))

@@ -1,8 +1,8 @@
 -- What is lent, at one moment, of the parameters by their names (base/specs/Lent.antt).
-use Rattle.base.specs.Lent.{Slice}
+use Rattle.base.specs.Lent.{MutSlice, Lent}
 use Rattle.jit_theorem.specs.Theorem.{Buffers}
 
-abbrev pub buffers : (code locations fields targets kinds makers : Slice) → Buffers
+abbrev pub buffers : (code locations fields targets kinds makers : MutSlice) → Buffers
 buffers code locations fields targets kinds makers =
     record {
       code = code.now;

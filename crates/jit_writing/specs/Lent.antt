@@ -1,6 +1,6 @@
 -- What the writing pass asks and promises (Writes.antt), of the parameters by their names (base/specs/Lent.antt).
 use Rattle.std.specs.Prelude.{List, ℕ}
-use Rattle.base.specs.Lent.{Slice, Lent}
+use Rattle.base.specs.Lent.{MutSlice, Lent, MutLent}
 use Rattle.base.specs.declared.Position.{Position}
 use Rattle.base.specs.declared.Slot.{Slot}
 use Rattle.ebpf.specs.Insn.{insn_at}
@@ -25,18 +25,18 @@ abbrev pub plain_code : Mode → Insn → Code
 plain_code mode i = N.plain_code mode (kind_of i.opc) i
 
 -- the entries ys stand in `locations` from that slot's on, and r is the slot behind them
-abbrev pub Put : (locations : Lent) → (slot r : Slot) → List ℕ → Type 0
+abbrev pub Put : (locations : MutLent) → (slot r : Slot) → List ℕ → Type 0
 Put locations slot r ys = E.Put locations.entry.now locations.exit.now slot.number r.number ys
 
 -- the filter is accepted, and there is room for its slots' code from `start` on, for an entry of each, and for its jumps
-abbrev pub Fitting : Filter → (page : ℕ) → (start : Position) → (code locations fields targets kinds makers : Slice) → Type 0
+abbrev pub Fitting : Filter → (page : ℕ) → (start : Position) → (code locations fields targets kinds makers : MutSlice) → Type 0
 Fitting filter page start code locations fields targets kinds makers =
     W.Fitting
     (walked filter page start) page start.offset
     code.now locations.now (tables fields targets kinds makers) (slots_of filter.program)
 
 -- .. and these are written, up to r
-abbrev pub Writes : Filter → (page : ℕ) → (start : Position) → (code locations fields targets kinds makers : Lent) → (r : Emission) → Type 0
+abbrev pub Writes : Filter → (page : ℕ) → (start : Position) → (code locations fields targets kinds makers : MutLent) → (r : Emission) → Type 0
 Writes filter page start code locations fields targets kinds makers r =
     W.Writes
     (walked filter page start) start.offset

@@ -1,6 +1,6 @@
 -- A load and a store by where they lie: in the packet, in the stack, or in neither.
 use Rattle.std.specs.Prelude.{◌≡◌, ℕ, Bool, true, false, List}
-use Rattle.base.specs.Lent.{Lent}
+use Rattle.base.specs.Lent.{Lent, MutLent}
 use Rattle.base.specs.declared.Size.{Size}
 use Rattle.replay.specs.declared.Place.{Place}
 use Rattle.replay.specs.declared.Place.TheVariants.{Packet, Stack, Outside}
@@ -36,6 +36,6 @@ pub record StoredIn (z : Size) (value : ℕ) (packet packet' stack stack' : List
   pub stack_after : stack' ≡ stack_after z value stack place
 
 -- .. said of the parameters by their names (base/specs/Lent.antt)
-abbrev pub StoredAt : Size → (value : ℕ) → (packet stack : Lent) → Place → Bool → Type 0
+abbrev pub StoredAt : Size → (value : ℕ) → (packet stack : MutLent) → Place → Bool → Type 0
 StoredAt z value packet stack place r =
     StoredIn z value packet.entry.now packet.exit.now stack.entry.now stack.exit.now place r

@@ -1,6 +1,6 @@
 -- The table of codes, of the parameters by their names (base/specs/Lent.antt).
 use Rattle.std.specs.Prelude.{◌≡◌, ℕ}
-use Rattle.base.specs.Lent.{Slice, Lent}
+use Rattle.base.specs.Lent.{Slice, Lent, MutLent}
 use Rattle.jit.specs.Translation.{slots_of}
 use Rattle.replay.specs.declared.Refusal.TheVariants.{NotModelled}
 use Rattle.replay.specs.Report.{Verdict, runs, refused, first_from}
@@ -12,7 +12,7 @@ abbrev pub code_in : (prog : Lent) → (slot : ℕ) → ℕ
 code_in prog slot = C.code_at prog.entry.now slot
 
 -- what is left in a lent table; and what is lent is such a table
-abbrev pub Coded : (prog codes : Lent) → Type 0
+abbrev pub Coded : (prog : Lent) (codes : MutLent) → Type 0
 Coded prog codes = C.Coded prog.entry.now codes.exit.now
 
 abbrev pub IsCoded : (prog codes : Slice) → Type 0

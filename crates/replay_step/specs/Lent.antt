@@ -1,6 +1,6 @@
 -- What a slot needs and what it comes to (Steps.antt), of the parameters by their names (base/specs/Lent.antt).
 use Rattle.std.specs.Prelude.{◌≡◌, ℕ, ◌/◌, Bool, true, length, slice_index, slice_set}
-use Rattle.base.specs.Lent.{Slice, Lent}
+use Rattle.base.specs.Lent.{Slice, MutSlice, Lent, MutLent}
 use Rattle.base.specs.declared.Width.{Width}
 use Rattle.base.specs.declared.Width.TheVariants.{W64}
 use Rattle.ebpf.specs.Insn.{insn_at}
@@ -26,7 +26,7 @@ Reaches packet stack = Areas (length packet.now) (length stack.now)
 abbrev pub Swaps : (prog : Slice) → (slot : ℕ) → Type 0
 Swaps prog slot = swap_bits (insn_at prog.now slot).imm ≡ true
 
-abbrev pub Ready : (prog : Slice) → (slot code : ℕ) → (regs stack packet : Slice) → Type 0
+abbrev pub Ready : (prog : Slice) → (slot code : ℕ) → (regs : MutSlice) (stack packet : Slice) → Type 0
 Ready prog slot code regs stack packet = S.Ready prog.now slot code regs.now stack.now packet.now
 
 -- in an `ensures`: the slot's fields, its operands, and what it computes
@@ -36,20 +36,20 @@ insn_in prog slot = insn_at prog.entry.now slot
 abbrev pub source_in : Width → (code : ℕ) → (prog : Lent) → (slot : ℕ) → (regs : Lent) → ℕ
 source_in w code prog slot regs = src_of w (source_of code) (insn_in prog slot) regs.entry.now
 
-abbrev pub Computed : Width → (code : ℕ) → (prog : Lent) → (slot : ℕ) → (regs : Lent) → Type 0
+abbrev pub Computed : Width → (code : ℕ) → (prog : Lent) → (slot : ℕ) → (regs : MutLent) → Type 0
 Computed w code prog slot regs =
     let i = insn_in prog slot in
     let r = regs.entry.now in
     regs.exit.now ≡ slice_set r i.dst (value_by w (code / 16) (dst_of w i r) (src_of w (source_of code) i r))
 
-abbrev pub Swapped : (code : ℕ) → (prog : Lent) → (slot : ℕ) → (regs : Lent) → Type 0
+abbrev pub Swapped : (code : ℕ) → (prog : Lent) → (slot : ℕ) → (regs : MutLent) → Type 0
 Swapped code prog slot regs =
     let i = insn_in prog slot in
     let r = regs.entry.now in
     regs.exit.now ≡ slice_set r i.dst (swap_by (source_of code) i.imm (dst_of W64 i r))
 
 -- class ALU, whose swaps work on 64 bits
-abbrev pub ComputedLow : (code : ℕ) → (prog : Lent) → (slot : ℕ) → (regs : Lent) → Type 0
+abbrev pub ComputedLow : (code : ℕ) → (prog : Lent) → (slot : ℕ) → (regs : MutLent) → Type 0
 ComputedLow code prog slot regs =
     let i = insn_in prog slot in
     let r = regs.entry.now in
@@ -82,20 +82,20 @@ pub record LoadsIn (code : ℕ) (prog : Lent) (slot : ℕ) (regs stack packet : 
       ≡ S.regs_after (size_of code) (insn_in prog slot).dst regs.entry.now stack.entry.now packet.entry.now
       (S.place_by (size_of code) (insn_in prog slot) (insn_in prog slot).src regs.entry.now packet.entry.now)
 
-abbrev pub Loads : (code : ℕ) → (prog : Lent) → (slot : ℕ) → (regs stack packet : Lent) → Bool → Type 0
+abbrev pub Loads : (code : ℕ) → (prog : Lent) → (slot : ℕ) → (regs : MutLent) (stack packet : Lent) → Bool → Type 0
 Loads code prog slot regs stack packet r = LoadsIn code prog slot regs stack packet r
 
-abbrev pub Stores : (code : ℕ) → (prog : Lent) → (slot : ℕ) → (regs stack packet : Lent) → (value : ℕ) → Bool → Type 0
+abbrev pub Stores : (code : ℕ) → (prog : Lent) → (slot : ℕ) → (regs : Lent) (stack packet : MutLent) → (value : ℕ) → Bool → Type 0
 Stores code prog slot regs stack packet value r =
     StoredAt (size_of code) value packet stack
     (S.place_by (size_of code) (insn_in prog slot) (insn_in prog slot).dst regs.entry.now packet.entry.now) r
 
 -- the whole slot
-abbrev pub Stepped : (prog : Lent) → (slot : ℕ) → (regs stack packet : Lent) → Next → Type 0
+abbrev pub Stepped : (prog : Lent) → (slot : ℕ) → (regs : MutLent) (stack packet : Lent) → Next → Type 0
 Stepped prog slot regs stack packet r =
     S.Stepped prog.entry.now slot
     (S.state regs.entry.now stack.entry.now packet.entry.now)
     (S.state regs.exit.now stack.exit.now packet.exit.now) r
 
-abbrev pub Worked : (code : ℕ) → (prog : Lent) → (slot : ℕ) → (regs stack packet : Lent) → Work → Type 0
+abbrev pub Worked : (code : ℕ) → (prog : Lent) → (slot : ℕ) → (regs : MutLent) (stack packet : Lent) → Work → Type 0
 Worked code prog slot regs stack packet r = Stepped prog slot regs stack packet (S.finished code (insn_in prog slot) slot r)
