@@ -1,0 +1,7 @@
+use Rattle.std.proofs.Common.{refl, arith, rules}
+use Rattle.x86.specs.Encode.{modrm}
+use Rattle.x86_emit.proofs.bytes.modrm.Goals as goal
+
+pub returns : goal.returns
+unfolding modrm
+returns c = (refl, omega arith)
