@@ -1,0 +1,7 @@
+use Rattle.text.specs.Numerals.{decimal}
+use borrow.Author.Rules.{rules}
+use Rattle.text.proofs.digits.count_decimal.Goals as goal
+
+pub returns : goal.returns
+unfolding decimal
+returns c = c.count_digits.ensures

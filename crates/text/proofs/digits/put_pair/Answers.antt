@@ -1,0 +1,11 @@
+use lib.ListN.{length-set}
+use native.Mathlib.Omega.{arith}
+use Rattle.text.proofs.DigitsLaws.{pair-less, pair_inside, pair_fits, pair-stored}
+use borrow.Author.Rules.{rules}
+use Rattle.text.proofs.digits.put_pair.Goals as goal
+
+pub returns : goal.returns
+returns c =
+    let a = c.args in
+    let asked = c.requires.pairs.1 in
+    pair-stored a.base asked.0 asked.1.0 a.both asked.1.1 a.out.now a.pairs.now a.at c.requires.pairs.0

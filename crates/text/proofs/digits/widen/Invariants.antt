@@ -1,0 +1,12 @@
+use Prim.Native.Nat.{◌-◌}
+use native.Mathlib.Omega.{arith}
+use Rattle.text.proofs.DigitsLaws.{Widening, fits, widening, widened}
+use Rattle.text.proofs.NumeralLaws.{hex-most}
+use borrow.Author.Rules.{rules}
+use Rattle.text.proofs.digits.widen.Given as goal
+
+abbrev pub invariant-loop-largest : goal.invariant-loop-largest
+invariant-loop-largest l = Widening l.n l.digits l.largest
+
+abbrev pub decreases-loop-largest : goal.decreases-loop-largest
+decreases-loop-largest l = l.n - l.largest

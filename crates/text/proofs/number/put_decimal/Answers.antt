@@ -1,0 +1,7 @@
+use Rattle.text.specs.Numerals.{decimal}
+use borrow.Author.Rules.{rules}
+use Rattle.text.proofs.number.put_decimal.Goals as goal
+
+pub returns : goal.returns
+unfolding decimal
+returns c = c.put_numeral.ensures

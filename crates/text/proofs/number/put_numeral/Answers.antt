@@ -1,0 +1,18 @@
+use mathlib.Core.Path.{refl, sym}
+use lib.Seq.{length-take-le}
+use native.Mathlib.Omega.{arith}
+use Rattle.text.specs.Numerals.{most_digits, pairs}
+use Rattle.text.proofs.SaysLaws.{same, stands, kept}
+use Rattle.text.proofs.NumeralLaws.{numeral-most}
+use borrow.Author.Rules.{rules}
+use Rattle.text.proofs.number.put_numeral.Goals as goal
+
+pub put_digits-end-requires : goal.put_digits-end-requires
+unfolding pairs
+put_digits-end-requires c = record { pairs = (refl, c.requires); has_room = omega (arith, numeral-most c.args.base most_digits c.args.n) }
+
+pub returns : goal.returns
+returns c =
+    let a = c.args in
+    let made = c.put_digits-end.ensures in
+    same c.put_text.ensures (stands made (omega (arith, numeral-most a.base most_digits a.n)))

@@ -1,0 +1,12 @@
+use Prim.Native.Nat.{◌≤◌, ◌-◌}
+use mathlib.Core.Path.{◌≡◌, ◌∙◌, refl}
+use native.Mathlib.Omega.{arith}
+use lib.ListN.{length, drop}
+use borrow.Author.Rules.{rules}
+use Rattle.text.proofs.SaysLaws.{Leads, turn, left-text, kept, done-text}
+use Rattle.text.proofs.text.put_text.Goals as goal
+
+pub loop-i-preserved : goal.loop-i-preserved
+loop-i-preserved c =
+    let byte = c.put_byte-next.ensures in
+    (omega arith, kept byte ∙ c.loop-i.invariant.1, turn c.loop-i.invariant.2 byte (left-text _ _ c.loop-i-test.true))
