@@ -1,0 +1,13 @@
+use Rattle.text.proofs.SaysLaws.{same, then}
+use Rattle.ebpf_text.specs.Assembler.{jump_text}
+use borrow.Author.Rules.{rules}
+use Rattle.ebpf_text.proofs.put_jump.Goals as goal
+
+pub returns : goal.returns
+unfolding jump_text
+returns c =
+    same
+    (then c.put_text-next.ensures
+    (then c.put_comparison-next.ensures
+    c.put_form.ensures))
+    (rw c.extended.ensures)
