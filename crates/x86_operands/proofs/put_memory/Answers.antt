@@ -1,0 +1,8 @@
+use Rattle.x86_operands.specs.Operands.{memory_text}
+use Rattle.text.proofs.SaysLaws.{then}
+use borrow.Author.Rules.{rules}
+use Rattle.x86_operands.proofs.put_memory.Goals as goal
+
+pub returns : goal.returns
+unfolding memory_text
+returns c = then c.put_size-next.ensures (then c.put_register-next.ensures (then c.put_displacement-next.ensures c.put_byte.ensures))
