@@ -1,4 +1,3 @@
 pub mod Sixteen
-pub mod State
 pub mod EmitsLaws
 pub mod RegisterMap

@@ -2,4 +2,3 @@
 // theorems (proofs/) only.
 
 #![tactic(auto)]
-
