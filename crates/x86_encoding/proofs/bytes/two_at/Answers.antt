@@ -1,0 +1,25 @@
+use native.Mathlib.Nat.{add-zero}
+use Rattle.x86.specs.Decode.{number}
+use borrow.Author.Rules.{rules}
+use Rattle.x86_encoding.proofs.bytes.two_at.Goals as goal
+
+pub returns-in_default : goal.returns-in_default
+unfolding number
+returns-in_default c = λ k. rw (c.byte_at.ensures, c.in_default.is)
+
+pub returns-in_default-byte_at : goal.returns-in_default-byte_at
+unfolding number
+returns-in_default-byte_at c = λ k. rw (c.byte_at.ensures, c.in-Is.is, c.byte_at-2.ensures, c.in_default-byte_at.is)
+
+pub returns : goal.returns
+unfolding number
+returns c =
+    λ k. rw (
+      c.byte_at.ensures,
+      c.in-Is.is,
+      c.byte_at-2.ensures,
+      c.in-Is-byte_at.is,
+      c.wide32.ensures.0,
+      c.wide32-2.ensures.0,
+      add-zero,
+    )

@@ -1,0 +1,23 @@
+use Rattle.x86.specs.Decode.{with_modrm}
+use Rattle.base.proofs.Tests.{eqb-true, eqb-false}
+use borrow.Author.Rules.{rules}
+use Rattle.x86_encoding.proofs.operand.modrm_at.Goals as goal
+
+pub returns-in_default : goal.returns-in_default
+unfolding with_modrm
+returns-in_default c = λ k. rw (c.byte_at.ensures, c.in_default.is)
+
+pub returns-then-m-eq3 : goal.returns-then-m-eq3
+unfolding with_modrm
+returns-then-m-eq3 c =
+    λ k. rw (
+      c.byte_at.ensures,
+      c.in-Is.is,
+      eqb-true _ _ c.if-m-eq3.true,
+      c.reg_number.ensures,
+      c.low_number.ensures,
+    )
+
+pub returns-then-m-eq4 : goal.returns-then-m-eq4
+unfolding with_modrm
+returns-then-m-eq4 c = λ k. rw (c.byte_at.ensures, c.in-Is.is, eqb-false _ _ c.if-m-eq3.false, eqb-true _ _ c.if-m-eq4.true)
