@@ -43,19 +43,19 @@ worked-report = refl
 abbrev header : List ℕ
 header = 0xd4 ∷ 0xc3 ∷ 0xb2 ∷ 0xa1 ∷ 2 ∷ 0 ∷ 4 ∷ 0 ∷ 0 ∷ 0 ∷ 0 ∷ 0 ∷ 0 ∷ 0 ∷ 0 ∷ 0 ∷ 0 ∷ 0 ∷ 4 ∷ 0 ∷ 1 ∷ 0 ∷ 0 ∷ 0 ∷ []
 
-abbrev record_of : (length : ℕ) → List ℕ → List ℕ
-record_of n s = 1 ∷ 2 ∷ 3 ∷ 4 ∷ 5 ∷ 6 ∷ 7 ∷ 8 ∷ n ∷ 0 ∷ 0 ∷ 0 ∷ 60 ∷ 0 ∷ 0 ∷ 0 ∷ s
+abbrev record_with : (length : ℕ) → List ℕ → List ℕ
+record_with n s = 1 ∷ 2 ∷ 3 ∷ 4 ∷ 5 ∷ 6 ∷ 7 ∷ 8 ∷ n ∷ 0 ∷ 0 ∷ 0 ∷ 60 ∷ 0 ∷ 0 ∷ 0 ∷ s
 
 -- .. and what is behind them
 abbrev captured : List ℕ → List ℕ
-captured rest = header ++ record_of 2 (7 ∷ 8 ∷ record_of 0 (record_of 1 (0 ∷ record_of 1 (9 ∷ rest))))
+captured rest = header ++ record_with 2 (7 ∷ 8 ∷ record_with 0 (record_with 1 (0 ∷ record_with 1 (9 ∷ rest))))
 
 pub whole-capture : of_capture filter (captured []) (header_of (captured [])) ≡ whole report
 unfolding header_of record_of records_from
 whole-capture = ap whole worked-report
 
 -- two bytes of a fifth packet, of which three were captured: 18, with what was counted before it
-pub cut-capture : of_capture filter (captured (record_of 3 (1 ∷ 2 ∷ []))) (header_of (captured (record_of 3 (1 ∷ 2 ∷ [])))) ≡ cut report
+pub cut-capture : of_capture filter (captured (record_with 3 (1 ∷ 2 ∷ []))) (header_of (captured (record_with 3 (1 ∷ 2 ∷ [])))) ≡ cut report
 unfolding header_of record_of records_from
 cut-capture = ap cut worked-report
 

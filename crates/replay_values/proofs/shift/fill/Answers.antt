@@ -1,0 +1,11 @@
+use Rattle.base.specs.Widths.{bits}
+use lib.Pow.{shr_le}
+use Rattle.replay_values.proofs.ShiftLaws.{not_negative, is_negative, taken, count_word}
+use Rattle.std.proofs.Common.{rules}
+use Rattle.replay_values.proofs.shift.fill.Goals as goal
+
+pub returns : goal.returns
+returns c =
+    let w = c.args.w in
+    rw (is_negative w c.args.a (rw c.half.ensures at c.if-a-half.false), c.ones-all.ensures)
+    (taken (bits w) c.args.by c.requires)
