@@ -181,7 +181,7 @@ module _ (mode : Mode) (slot start : ℕ) (g : Regs) (begun : g RSP ≡ start) (
       → Brings slot start g begun words o w d p (loaded mode (alu_imm MOV W64 RCX x)) (immediate w x) fit
   unfolding rd result
   imm-brings x small fit k g₁ f same h =
-      loads start _ mode W64 RCX x (jit.operated o w d) k g₁ f (h (put g₁ RCX (extended W64 x)) f (cut_imm w x small) (λ m e. rw e))
+      loads start (Writes slot g d (mul_value o w (rd w g d) (immediate w x))) mode W64 RCX x (jit.operated o w d) k g₁ f (h (put g₁ RCX (extended W64 x)) f (cut_imm w x small) (λ m e. rw e))
 
 -- By a register: the slot's number goes to RCX, and the divisor is tested.
 module _ (mode : Mode) (slot : ℕ) (small : slot < 2 ^ 32) (start : ℕ) (g : Regs) (begun : g RSP ≡ start) (words : (r : ℕ) → g r < 2 ^ 64)

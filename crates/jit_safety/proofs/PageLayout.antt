@@ -221,7 +221,7 @@ module _ (f : Flags) (bs : List Block) (o : Origins 0 bs) where
       let g : extent A ≡ exit_of f bs =
       span-append cell_len (prologue_cells f) (flat_cells 0 bs o) ∙ rw (front-extent, ← size-instrs (flat_cells 0 bs o), flat-same 0 bs o) in
       sym v.at
-      ∙ gate-extent A v.pre _ v.cell _ v.post (shut-append (prologue_cells f) (flat_cells 0 bs o) (shut-laid 0 (annotated (prologue f))) (flat-shut 0 bs o)) tt (e ∙ v.split) t
+      ∙ gate-extent A v.pre _ v.cell _ v.post (shut-append (prologue_cells f) (flat_cells 0 bs o) (shut-laid (annotated (prologue f)) 0) (flat-shut 0 bs o)) tt (e ∙ v.split) t
       ∙ g
 
   pub exit-framed : Place page_cells (place_of locs (exit_of f bs) anchor) (exactly framed)

@@ -174,9 +174,9 @@ pub shut-append : (a b : List Cell) → T (shut a) → T (shut b) → T (shut (a
 shut-append [] b p q = q
 shut-append (c ∷ a) b p q = both (not c.gate) (shut a) (not c.gate) (shut (a ++ b)) (λ x. x) (λ x. shut-append a b x q) p
 
-pub shut-laid : (d : ℕ) (l : List Note) → T (shut (laid false d l))
-shut-laid d [] = tt
-shut-laid d (n ∷ l) = shut-laid _ l
+pub shut-laid : (l : List Note) (d : ℕ) → T (shut (laid false d l))
+shut-laid [] d = tt
+shut-laid (n ∷ l) d = shut-laid l _
 
 pub instrs-laid : (g : Bool) (d : ℕ) (l : List Note) → instrs (laid g d l) ≡ codes l
 instrs-laid g d [] = refl
@@ -281,7 +281,7 @@ none = record { cells = []; same = refl; passes = record { flow = tt; even = tt;
 -- from notes, from code that needs none, and from code by the notes that it asks for
 pub noted : (c : Code) (l : List Note) → codes l ≡ c → T (fine_notes l) → WfCode c → T (skips_in c) → Piece c
 noted c l e t w s =
-    record { cells = laid false 0 l; same = instrs-laid false 0 l ∙ e; passes = passed (laid false 0 l) t; shuts = shut-laid 0 l; wf = w; skips = s }
+    record { cells = laid false 0 l; same = instrs-laid false 0 l ∙ e; passes = passed (laid false 0 l) t; shuts = shut-laid l 0; wf = w; skips = s }
 
 pub unnoted : (c : Code) → T (fine_notes (plain c)) → WfCode c → T (skips_in c) → Piece c
 unnoted c t w s = noted c (plain c) (codes-plain c) t w s

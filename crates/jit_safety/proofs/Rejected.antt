@@ -26,7 +26,7 @@ use Rattle.jit_safety.proofs.Depth.{framed, balanced}
 use Rattle.jit_safety.proofs.Notes.{laid, annotated}
 use Rattle.jit_safety.proofs.Checked.{fine_code, by_imm, calling}
 use Rattle.x86_machine.proofs.WorkedRun.{clear, input}
-use Rattle.jit_safety.proofs.UselessRuns.{never-divided, uneven-return, runs_by}
+use Rattle.jit_safety.proofs.UselessRuns.{never-divided, uneven-return, runs_by_lem}
 
 -- DIV32_REG r2, r1 in slot 0, by the width of the test, the condition, how far it skips, what clears EDX, and the divisor's register
 abbrev division : (tested : Width) → Cond → (skip : ℕ) → (clear : Code) → (divisor : ℕ) → Code
@@ -179,7 +179,7 @@ pub one-pop-fewer-uneven : (fields : List ℕ) → StackPointer popping_less fie
 unfolding rex modrm decode with_rex rex_of opcode with_modrm reg_number low_number number rd result follow step run
 one-pop-fewer-uneven fields p =
     uneven-return popping_less fields p (inputs 9 12) (begun 0 0 0) _ (refl, refl)
-    (runs_by popping_less 4 (get_or fields 0 0 - 1) (inputs 9 12) (begun 0 0 0) tt) (0xc3 ∷ []) refl refl (omega arith)
+    (runs_by_lem popping_less 4 (get_or fields 0 0 - 1) (inputs 9 12) (begun 0 0 0) tt) (0xc3 ∷ []) refl refl (omega arith)
 
 -- the epilogue, by what it adds to RSP
 abbrev leaving : (added : ℕ) → Code
