@@ -2,7 +2,7 @@
 use Rattle.std.specs.Prelude.{◌≡◌, ℕ, ◌+◌}
 use Rattle.std.proofs.lemmas.List.Edits.{sets}
 use Rattle.base.specs.Bytes.{le64}
-use Rattle.base.specs.Lent.{Lent, MutLent}
+use Rattle.base.specs.Lent.{MutLent}
 use Rattle.base.specs.declared.Position.{Position}
 use Rattle.x86_emit.specs.Lent.{Stores}
 

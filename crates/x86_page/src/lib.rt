@@ -1,6 +1,5 @@
-// The page that is lent, and the place of its next byte: the Rust's `JitMemory` and `emit_bytes!`. Each function that makes, takes or
-// returns one is thin, since it is proved by a walk of its MIR by hand; `store_at`, which does the work on slice and place, is covered.
-// `emit_words` stands above them: its parameters are plain, so whoever calls it needs no walk.
+// The page that is lent, and the place of its next byte: the Rust's `JitMemory` and `emit_bytes!`. `store_at` does the work, on slice
+// and place; `emit_words` takes and gives plain values, so whoever calls it holds no memory.
 
 #![tactic(auto)]
 
@@ -50,11 +49,14 @@ pub fn emit_bytes<'a>(mem: JitMemory<'a>, word: u64, size: usize) -> JitMemory<'
     }
 }
 
-// Eight bytes, and the lowest `size` bytes of a second word behind them; the answer is the place behind those.
+// Eight bytes, and the lowest `size` bytes of a second word behind them; the answer is the place behind those. The memory is not passed
+// on by value: a call that takes it and gives it back leaves nothing known of what `code` ends with.
 pub fn emit_words(code: &mut [u8], at: Position, first: u64, second: u64, size: usize) -> Position
     requires { Fits code at × (size ≤ 8) }
     ensures { StoresWords code at result first second size }
 {
-    let mem = emit_bytes(emit_bytes(new(code, at), first, 8), second, size);
-    mem.offset
+    let mem = new(code, at);
+    let start = mem.offset;
+    let next = store_at(&mut *mem.contents, start, first, 8);
+    store_at(&mut *mem.contents, next, second, size)
 }
