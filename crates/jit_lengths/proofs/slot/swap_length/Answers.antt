@@ -1,0 +1,6 @@
+use Rattle.jit_lengths.proofs.LengthsLaws.{swap-16, swap_32, swap_64}
+use Rattle.std.proofs.Common.{arith, rules}
+use Rattle.jit_lengths.proofs.slot.swap_length.Goals as goal
+
+pub returns : goal.returns
+returns c = (swap_64 _ _ c.if-bits-eq16.false c.if-bits-eq32.false, omega arith)
