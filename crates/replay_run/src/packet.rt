@@ -1,5 +1,6 @@
 // A packet starts afresh.
 ghost use Rattle.std.specs.Prelude.{◌≡◌};
+ghost use Rattle.base.specs.Lent.{read};
 ghost use Rattle.replay_run.specs.Lent.{Starting, RanPacket};
 
 use crate::run::run;
@@ -10,7 +11,7 @@ const REGISTERS: usize = 11;
 
 // `packet` is left as the run leaves it.
 pub fn run_packet(codes: &[u8], prog: &[u8], counts: &mut [u64], packet: &mut [u8]) -> Ended
-    requires { Starting codes prog counts packet }
+    requires { Starting codes prog counts (read packet) }
     ensures { RanPacket prog counts packet result }
 {
     let mut regs = [0u64; REGISTERS];

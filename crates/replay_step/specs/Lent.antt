@@ -75,7 +75,7 @@ imm_in prog slot = immediate W64 (insn_in prog slot).imm
 abbrev pub src_in : (prog : Lent) → (slot : ℕ) → (regs : Lent) → ℕ
 src_in prog slot regs = slice_index regs.entry.now (insn_in prog slot).src
 
-pub record LoadsIn (code : ℕ) (prog : Lent) (slot : ℕ) (regs stack packet : Lent) (r : Bool) : Type 0 where
+pub record LoadsIn (code : ℕ) (prog : Lent) (slot : ℕ) (regs : MutLent) (stack packet : Lent) (r : Bool) : Type 0 where
   pub inside : r ≡ is_inside (S.place_by (size_of code) (insn_in prog slot) (insn_in prog slot).src regs.entry.now packet.entry.now)
   pub regs_after :
       regs.exit.now

@@ -1,4 +1,5 @@
 // Arithmetic, moves and swaps: classes ALU and ALU64.
+ghost use Rattle.base.specs.Lent.{read};
 ghost use Rattle.std.specs.Prelude.{◌≡◌, ◌/◌, ◌^◌, ◌<◌, true};
 ghost use Rattle.base.specs.Widths.{bits};
 ghost use Rattle.base.specs.declared.Width.TheVariants.{W32, W64};
@@ -79,7 +80,7 @@ fn value_32(code: u8, a: u64, b: u64) -> u64
 }
 
 pub fn step_arithmetic_64(code: u8, prog: &[u8], slot: usize, regs: &mut [u64])
-    requires { Fetches prog slot regs }
+    requires { Fetches prog slot (read regs) }
     ensures { Computed W64 code prog slot regs }
 {
     let named = registers_of(prog, slot);
@@ -90,7 +91,7 @@ pub fn step_arithmetic_64(code: u8, prog: &[u8], slot: usize, regs: &mut [u64])
 }
 
 pub fn step_arithmetic_32(code: u8, prog: &[u8], slot: usize, regs: &mut [u64])
-    requires { Fetches prog slot regs }
+    requires { Fetches prog slot (read regs) }
     ensures { Computed W32 code prog slot regs }
 {
     let named = registers_of(prog, slot);
@@ -112,7 +113,7 @@ fn swapped(code: u8, width: u32, a: u64) -> u64
 }
 
 pub fn step_swap(code: u8, prog: &[u8], slot: usize, regs: &mut [u64])
-    requires { Fetches prog slot regs × Swaps prog slot }
+    requires { Fetches prog slot (read regs) × Swaps prog slot }
     ensures { Swapped code prog slot regs }
 {
     let dst = dst_of(prog, slot);

@@ -1,4 +1,5 @@
 // Loads and stores: classes LDX, ST and STX.
+ghost use Rattle.base.specs.Lent.{read};
 ghost use Rattle.std.specs.Prelude.{◌≡◌};
 ghost use Rattle.replay_step.specs.Lent.{Fetches, Reaches, Loads, Stores, imm_in, src_in};
 
@@ -17,7 +18,7 @@ pub fn step_load(
     stack: &[u8],
     packet: &[u8],
 ) -> bool
-    requires { Fetches prog slot regs × Reaches packet stack }
+    requires { Fetches prog slot (read regs) × Reaches packet stack }
     ensures { Loads code prog slot regs stack packet result }
 {
     let src = src_of(prog, slot);
@@ -41,7 +42,7 @@ fn store(
     packet: &mut [u8],
     value: u64,
 ) -> bool
-    requires { Fetches prog slot regs × Reaches packet stack }
+    requires { Fetches prog slot regs × Reaches (read packet) (read stack) }
     ensures { Stores code prog slot regs stack packet value result }
 {
     let dst = dst_of(prog, slot);
@@ -57,7 +58,7 @@ pub fn step_store_imm(
     stack: &mut [u8],
     packet: &mut [u8],
 ) -> bool
-    requires { Fetches prog slot regs × Reaches packet stack }
+    requires { Fetches prog slot regs × Reaches (read packet) (read stack) }
     ensures { Stores code prog slot regs stack packet (imm_in prog slot) result }
 {
     let value = immediate(Width::W64, imm_of(prog, slot));
@@ -72,7 +73,7 @@ pub fn step_store_reg(
     stack: &mut [u8],
     packet: &mut [u8],
 ) -> bool
-    requires { Fetches prog slot regs × Reaches packet stack }
+    requires { Fetches prog slot regs × Reaches (read packet) (read stack) }
     ensures { Stores code prog slot regs stack packet (src_in prog slot regs) result }
 {
     let src = src_of(prog, slot);

@@ -1,4 +1,5 @@
 // One slot of a run, by the class of its code: the opcode's own class, and LD for a wide load and the codes that are no opcode (replay_slots).
+ghost use Rattle.base.specs.Lent.{read, seen};
 ghost use Rattle.std.specs.Prelude.{◌≡◌, ◌/◌, ◌%◌, ◌^◌, ◌<◌};
 ghost use Rattle.replay_step.specs.Steps.{went_to};
 ghost use Rattle.replay_step.specs.Lent.{Fetches, Ready, Swaps, Stepped, Worked, ComputedLow, branch_in, branch_low_in};
@@ -71,7 +72,7 @@ fn work_special(
 
 // Class ALU, whose swaps work on 64 bits.
 fn step_alu(code: u8, prog: &[u8], slot: usize, regs: &mut [u64])
-    requires { Fetches prog slot regs × (code / 16 ≡ 13 → Swaps prog slot) }
+    requires { Fetches prog slot (read regs) × (code / 16 ≡ 13 → Swaps prog slot) }
     ensures { ComputedLow code prog slot regs }
 {
     if code / 16 == SWAP {
@@ -110,8 +111,8 @@ fn work_on(
     stack: &mut [u8],
     packet: &mut [u8],
 ) -> Work
-    requires { Ready prog slot code regs stack packet }
-    ensures { Worked code prog slot regs stack packet result }
+    requires { Ready prog slot code regs (read stack) (read packet) }
+    ensures { Worked code prog slot regs (seen stack) (seen packet) result }
 {
     match code % 8 {
         0 => work_special(code, prog, slot, regs, stack, packet),
@@ -140,8 +141,8 @@ pub fn step(
     stack: &mut [u8],
     packet: &mut [u8],
 ) -> Next
-    requires { Ready prog slot code regs stack packet }
-    ensures { Stepped prog slot regs stack packet result }
+    requires { Ready prog slot code regs (read stack) (read packet) }
+    ensures { Stepped prog slot regs (seen stack) (seen packet) result }
 {
     match work_on(code, prog, slot, regs, stack, packet) {
         Work::Branch(a, b) => Next::Go(jump(code, prog, slot, a, b)),

@@ -1,0 +1,16 @@
+use mathlib.Core.Path.{◌≡◌, sym, ◌∙◌, refl}
+use Prim.Native.Nat.{◌≤◌, ◌-◌, ◌/◌}
+use native.Mathlib.Omega.{arith}
+use lib.ListN.{length, length-set}
+use borrow.Author.Count.{below_none}
+use borrow.Author.Rules.{rules}
+use Rattle.replay.specs.Run.{is_second}
+use Rattle.replay_slots.proofs.CodesLaws.{Below, one_more, opens-next}
+use Rattle.replay_slots.proofs.code_slots.Given as goal
+
+abbrev pub invariant-loop-slot : goal.invariant-loop-slot
+invariant-loop-slot l =
+    (l.slot ≤ l.n) × ((l.second ≡ is_second l.prog l.slot) × (Below l.prog l.codes l.slot × ((length l.codes ≡ length l.initial.codes) × (l.n ≡ length l.prog / 8))))
+
+abbrev pub decreases-loop-slot : goal.decreases-loop-slot
+decreases-loop-slot l = l.n - l.slot
