@@ -1,5 +1,4 @@
 use Rattle.text.proofs.SaysLaws.{then}
-use borrow.Author.Rules.{rules}
 use Rattle.cases_problems.proofs.put_changed.Goals as goal
 
 pub returns : goal.returns

@@ -1,6 +1,5 @@
 use Rattle.text.proofs.SaysLaws.{then}
 use Rattle.cases_problems.specs.Problems.{report_of}
-use borrow.Author.Rules.{rules}
 use Rattle.cases_problems.proofs.put_report.Goals as goal
 
 pub returns : goal.returns

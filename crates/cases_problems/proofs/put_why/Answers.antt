@@ -1,4 +1,3 @@
-use borrow.Author.Rules.{rules}
 use Rattle.cases_problems.proofs.put_why.Goals as goal
 
 pub returns-in-End : goal.returns-in-End
