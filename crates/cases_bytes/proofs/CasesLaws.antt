@@ -1,11 +1,11 @@
 -- The laws of specs/Cases.antt: a case with which nothing is wrong has its parts inside the body, and places are filled one by one.
 use mathlib.Core.Path.{◌≡◌, ◌∙◌, refl, ap, sym}
-use mathlib.Core.Bool.{Bool, true, false, not}
+use mathlib.Core.Bool.{Bool, true, false}
 use mathlib.Core.List.{List, [], ◌∷◌, ◌++◌, append-nil}
 use Prim.Native.Nat.{ℕ, zero, suc, ◌+◌, ◌*◌, ◌<◌, ◌≤◌}
 use native.Mathlib.Omega.{arith}
 use native.Mathlib.Nat.{add-zero, zero-add}
-use borrow.Author.Tests.{ltb-false, eqb-true, not-false}
+use borrow.Author.Tests.{ltb-false, eqb-true}
 use lib.Dec.{eqb}
 use lib.ListN.{length, length-append, get_or, take, drop, set}
 use lib.Seq.{drop-cons, drop-length, length-take-le, append_snoc, set_at}
@@ -52,9 +52,9 @@ within b most_ids most_addresses e =
 
 -- .. as the code comes to it: w is what was found to be wrong, and t whether that is nothing
 pub sound : (b : List ℕ) (most_ids most_addresses : ℕ) (w : Problem) (t : Bool)
-    → w ≡ wrong_with b most_ids most_addresses → t ≡ eqb (problem_number w) 0 → not t ≡ false → Within b most_ids most_addresses
+    → w ≡ wrong_with b most_ids most_addresses → t ≡ eqb (problem_number w) 0 → t ≡ true → Within b most_ids most_addresses
 sound b most_ids most_addresses w t e f g =
-    within b most_ids most_addresses (rw (← e) (eqb-true (problem_number w) 0 (sym f ∙ not-false t g)))
+    within b most_ids most_addresses (rw (← e) (eqb-true (problem_number w) 0 (sym f ∙ g)))
 
 -- .. and by the case itself
 pub record Parted (r : Case) (b : List ℕ) (most_ids most_addresses : ℕ) : Type 0 where
@@ -66,7 +66,7 @@ pub record Parted (r : Case) (b : List ℕ) (most_ids most_addresses : ℕ) : Ty
 pub parted : (r : Case) (b : List ℕ) (most_ids most_addresses : ℕ) (w : Problem) (t : Bool)
     → w ≡ wrong_with b most_ids most_addresses
     → t ≡ eqb (problem_number w) 0
-    → not t ≡ false
+    → t ≡ true
     → r ≡ parts_of b
     → Parted r b most_ids most_addresses
 unfolding parts_of program_at

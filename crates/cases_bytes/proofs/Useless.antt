@@ -1,14 +1,13 @@
 -- Wrong answers that the contracts of this crate shut out, each on a small case.
-use mathlib.Core.Path.{◌≡◌, ◌∙◌, ap, sym}
+use mathlib.Core.Path.{◌≡◌, ◌∙◌, ap}
 use mathlib.Core.Bool.{Bool, true, false}
 use mathlib.Core.List.{List, [], ◌∷◌, ◌++◌}
-use Prim.Native.Nat.{ℕ, ◌+◌, ◌*◌, ◌≤◌, ◌<◌}
+use Prim.Native.Nat.{ℕ, ◌+◌, ◌≤◌, ◌<◌}
 use native.Mathlib.Omega.{arith}
 use lib.Dec.{leb}
 use borrow.Author.Tests.{le-leb}
-use lib.ListN.{length, get_or, take, drop, set, get_or-append}
+use lib.ListN.{length, get_or, drop, get_or-append}
 use lib.Seq.{sets, length-sets, sets-eq}
-use Rattle.base.specs.Bytes.{le32}
 use Rattle.ebpf.specs.Insn.{le4}
 use Rattle.text.specs.Text.{ascii}
 use Rattle.text.specs.Numerals.{decimal}

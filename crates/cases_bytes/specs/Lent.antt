@@ -1,7 +1,7 @@
 -- What the contracts say of the parameters by their names (base/specs/Lent.antt): the records and definitions of Stored.antt, Answers.antt
 -- and Cases.antt, each under its own name.
 use Rattle.std.specs.Prelude.{◌≡◌, Bool, List, ℕ, ◌+◌, ◌*◌, ◌≤◌, length}
-use Rattle.base.specs.Lent.{Slice, Lent, MutLent}
+use Rattle.base.specs.Lent.{Slice, Lent, MutLent, seen}
 use Rattle.ebpf.specs.Insn.{le4}
 use Rattle.cases_problems.specs.declared.Problem.{Problem}
 use Rattle.cases_bytes.specs.Stored as S
@@ -25,18 +25,18 @@ wide_at s at = le4 (held s) at + 4294967296 * le4 (held s) (at + 4)
 
 -- the bytes ys stand in `out` from `at` on, and r is the place behind them
 abbrev pub Put : MutLent → (at r : ℕ) → List ℕ → Type 0
-Put out at r ys = S.Put (held out) out.exit.now at r ys
+Put out at r ys = S.Put (held (seen out)) out.exit.now at r ys
 
 -- they stand at its start and r is how many they are; or they do not fit, and there are none
 abbrev pub Stored : Bool → MutLent → ℕ → List ℕ → Type 0
-Stored fits out r ys = S.Stored fits (held out) out.exit.now r ys
+Stored fits out r ys = S.Stored fits (held (seen out)) out.exit.now r ys
 
 abbrev pub refused_fits : MutLent → Bool
-refused_fits out = A.refused_fits (held out)
+refused_fits out = A.refused_fits (held (seen out))
 
 abbrev pub accepted_fits : (out : MutLent) (code locations fields targets kinds makers : Lent) → Bool
 accepted_fits out code locations fields targets kinds makers =
-    A.room_for (length_of out) (length_of code) (length_of locations) (length_of fields) (length_of targets) (length_of kinds) (length_of makers)
+    A.room_for (length_of (seen out)) (length_of code) (length_of locations) (length_of fields) (length_of targets) (length_of kinds) (length_of makers)
 
 abbrev pub tables : (locations fields targets kinds makers : Lent) → List ℕ
 tables locations fields targets kinds makers = A.tables (held locations) (held fields) (held targets) (held kinds) (held makers)
@@ -54,7 +54,7 @@ further body at unsaid = C.further (held body) at unsaid
 
 -- the case in a body, where `ids` and `addresses` are there for its helpers, and what is wrong with it
 abbrev pub case_of : (body : Lent) (ids addresses : MutLent) → Case
-case_of body ids addresses = C.case_of (held body) (length_of ids) (length_of addresses)
+case_of body ids addresses = C.case_of (held body) (length_of (seen ids)) (length_of (seen addresses))
 
 abbrev pub wrong_with : Lent → (most_ids most_addresses : ℕ) → Problem
 wrong_with body most_ids most_addresses = C.wrong_with (held body) most_ids most_addresses
@@ -71,7 +71,7 @@ address_at body at = C.address_at (held body) at
 
 -- the first n places of a slice are f's, and what is behind them is as it was
 abbrev pub Filled : MutLent → (ℕ → ℕ) → ℕ → Type 0
-Filled s f n = s.exit.now ≡ C.filled f n (held s)
+Filled s f n = s.exit.now ≡ C.filled f n (held (seen s))
 
 -- a case's helpers are in their slices, and its program is in the body
 abbrev pub Inside : (body ids addresses : Slice) → Case → Type 0

@@ -1,6 +1,7 @@
 // A case taken apart.
 ghost use Rattle.std.specs.Prelude.{◌≡◌, ◌+◌, ◌*◌, ◌≤◌, ◌<◌, length};
 ghost use Rattle.cases_bytes.specs.Cases.{lengths_end as Cases·lengthsEnd};
+ghost use Rattle.base.specs.Lent.{read, seen};
 ghost use Rattle.cases_bytes.specs.Cases.{program_at, no_case};
 ghost use Rattle.cases_bytes.specs.Lent.{length_of, lengths_end, case_of, wrong_with, further, parts_of, id_at, address_at, Filled, Inside};
 
@@ -120,7 +121,7 @@ fn wrong_with(body: &[u8], most_ids: usize, most_addresses: usize) -> Problem
 
 fn read_ids(body: &[u8], at: usize, ids: &mut [u32])
     requires { at + 4 * length ids.old ≤ length body.now }
-    ensures { Filled ids (id_at body at) (length_of ids) }
+    ensures { Filled ids (id_at body at) (length_of (seen ids)) }
 {
     let mut i = 0;
     while i < ids.len() {
@@ -131,7 +132,7 @@ fn read_ids(body: &[u8], at: usize, ids: &mut [u32])
 
 fn read_addresses(body: &[u8], at: usize, addresses: &mut [u64])
     requires { at + 8 * length addresses.old ≤ length body.now }
-    ensures { Filled addresses (address_at body at) (length_of addresses) }
+    ensures { Filled addresses (address_at body at) (length_of (seen addresses)) }
 {
     let mut i = 0;
     while i < addresses.len() {
@@ -184,7 +185,7 @@ pub fn take_apart(body: &[u8], ids: &mut [u32], addresses: &mut [u64]) -> Case
     ensures value { result ≡ case_of body ids addresses }
     ensures filled { Filled ids (id_at body (lengths_end body + 4)) result.ids }
     ensures filled_2 { Filled addresses (address_at body (lengths_end body + 8 + 4 * result.ids)) result.addresses }
-    ensures inside { Inside body.entry ids.exit addresses.exit result }
+    ensures inside { Inside body.entry (read ids.exit) (read addresses.exit) result }
 {
     let wrong = wrong_with(body, ids.len(), addresses.len());
     if !cases_problems::is_nothing(wrong) {

@@ -5,6 +5,7 @@ ghost use Rattle.cases_bytes.specs.Lent.{number_at};
 
 use crate::numbers;
 use cases_problems::Problem;
+use streams::{NO_REASON, Reason, Source};
 
 // The bytes of the buffer that are read and not yet used.
 #[derive(Clone, Copy)]
@@ -13,6 +14,8 @@ pub struct Window {
     pub end: usize,
     // A read failed; else a window that is shorter than asked is the stream's end.
     pub failed: bool,
+    // Why it failed.
+    pub reason: Reason,
 }
 
 // A record's place in the buffer, behind its length, and the end of what is read. Where there is a problem, all are 0.
@@ -22,6 +25,29 @@ pub struct Record {
     pub at: usize,
     pub length: usize,
     pub end: usize,
+}
+
+// What is there of a stream of which no read failed.
+pub fn window_of(start: usize, end: usize) -> Window
+    ensures { (result.start ≡ start) × (result.end ≡ end) }
+{
+    Window {
+        start,
+        end,
+        failed: false,
+        reason: NO_REASON,
+    }
+}
+
+fn failed_at(end: usize, reason: Reason) -> Window
+    ensures { (result.start ≡ 0) × (result.end ≡ end) }
+{
+    Window {
+        start: 0,
+        end,
+        failed: true,
+        reason,
+    }
 }
 
 fn no_record(problem: Problem) -> Record
@@ -46,32 +72,27 @@ fn move_to_front(buffer: &mut [u8], start: usize, count: usize)
 }
 
 // Reads behind the first `have` bytes until there are `wanted`, the buffer is full or nothing more comes.
-pub fn fill(fd: i32, buffer: &mut [u8], have: usize, wanted: usize) -> Window
+pub fn fill(from: &Source, buffer: &mut [u8], have: usize, wanted: usize) -> Window
     requires { have ≤ length buffer.old }
     ensures { (result.start ≡ 0) × (result.end ≤ length buffer.new) }
 {
     let mut end = have;
     while end < wanted {
-        let got = libc::read(fd, &mut buffer[end..]);
-        let more = io::count(got, &buffer[end..]);
-        if more == 0 {
-            return Window {
-                start: 0,
-                end,
-                failed: got < 0,
-            };
+        match streams::read(from, &mut buffer[end..]) {
+            Err(reason) => return failed_at(end, reason),
+            Ok(more) => {
+                if more == 0 {
+                    return window_of(0, end);
+                }
+                end += more;
+            }
         }
-        end += more;
     }
-    Window {
-        start: 0,
-        end,
-        failed: false,
-    }
+    window_of(0, end)
 }
 
 // The window, with `wanted` bytes in it where the stream has them.
-pub fn widened(fd: i32, buffer: &mut [u8], window: Window, wanted: usize) -> Window
+pub fn widened(from: &Source, buffer: &mut [u8], window: Window, wanted: usize) -> Window
     requires { (window.start ≤ window.end) × (window.end ≤ length buffer.old) }
     ensures { (result.start ≤ result.end) × (result.end ≤ length buffer.new) }
 {
@@ -81,7 +102,7 @@ pub fn widened(fd: i32, buffer: &mut [u8], window: Window, wanted: usize) -> Win
         return window;
     }
     move_to_front(buffer, start, have);
-    fill(fd, buffer, have, wanted)
+    fill(from, buffer, have, wanted)
 }
 
 // Whether the window holds a whole record, so that the next one needs no read.
@@ -96,11 +117,11 @@ pub fn is_at_hand(buffer: &[u8], start: usize, end: usize) -> bool
 }
 
 // The next record of at most `limit` bytes. The buffer has to hold it whole, with its length in front.
-pub fn next_record(fd: i32, buffer: &mut [u8], window: Window, limit: usize) -> Record
+pub fn next_record(from: &Source, buffer: &mut [u8], window: Window, limit: usize) -> Record
     requires { (window.start ≤ window.end) × (window.end ≤ length buffer.old) }
     ensures { (result.at + result.length ≤ result.end) × (result.end ≤ length buffer.new) }
 {
-    let begun = widened(fd, buffer, window, 4);
+    let begun = widened(from, buffer, window, 4);
     let start = begun.start;
     let have = begun.end - start;
     if begun.failed {
@@ -116,7 +137,7 @@ pub fn next_record(fd: i32, buffer: &mut [u8], window: Window, limit: usize) -> 
     if limit < length {
         return no_record(Problem::TooLong);
     }
-    whole_record(widened(fd, buffer, begun, 4 + length), length)
+    whole_record(widened(from, buffer, begun, 4 + length), length)
 }
 
 // The record at the window's start, if all of it is there.

@@ -12,11 +12,11 @@ pub struct Turn {
 }
 
 // The last turn, at the stream's end or where a record is wrong, which is reported of it and its number.
-pub fn last(record: &[u8], index: u64, wrong: Problem) -> Turn
+pub fn last(rt: &HostRuntime, record: &[u8], index: u64, wrong: Problem) -> Turn
     ensures { (result.start ≡ 0) × (result.end ≡ 0) }
 {
     if !cases_problems::is_end(wrong) {
-        cases_problems::report(record, index, wrong);
+        cases_problems::report(rt, record, index, wrong);
     }
     Turn {
         goes_on: false,

@@ -7,7 +7,6 @@ ghost use Rattle.text.specs.Lent.{Says};
 ghost use Rattle.cases_problems.specs.Problems.{problem_number, why_of};
 ghost use Rattle.cases_problems.specs.Lent.{changed_of, report_of};
 
-use libc::STDERR_FILENO;
 use text::number::put_decimal;
 use text::text::{put_byte, put_text};
 
@@ -140,11 +139,11 @@ pub fn put_report(out: &mut [u8], what: &[u8], index: u64, problem: Problem) -> 
 }
 
 // That line, on standard error; the answer is how many bytes it has, 160 at most.
-pub fn report(what: &[u8], index: u64, problem: Problem) -> usize
+pub fn report(rt: &HostRuntime, what: &[u8], index: u64, problem: Problem) -> usize
     ensures { result ≡ min (length (report_of what index problem)) 160 }
 {
     let mut line = [0u8; 160];
     let end = put_report(&mut line, what, index, problem);
-    io::write_all(STDERR_FILENO, &line[..end]);
+    streams::tell(rt, &line[..end]);
     end
 }

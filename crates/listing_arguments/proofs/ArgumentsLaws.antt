@@ -5,13 +5,12 @@ use mathlib.Core.List.{List, [], ◌∷◌}
 use Prim.Native.Nat.{ℕ, suc, ◌+◌, ◌*◌, ◌-◌, ◌/◌, ◌<◌, ◌≤◌, ◌^◌}
 use lib.Dec.{ltb, eqb, eqb→eq}
 use native.Mathlib.Omega.{arith}
-use native.Mathlib.Nat.{div-lt_iff_lt-mul, zero-add}
+use native.Mathlib.Nat.{div-lt_iff_lt-mul}
 use borrow.Author.Tests.{eq-eqb, ne_eqb, ltb-true, ltb-false}
 use lib.ListN.{length, length-drop, get_or, take, drop, drop_of_length-le, get_or-eq_default}
-use lib.Seq.{drop-cons, take_all, take-length}
-use Rattle.bytes.specs.Bytes.{index_of, slice}
+use lib.Seq.{drop-cons, take_all}
 use Rattle.base.proofs.Tests.{T_true, true-T, and_l, and_r}
-use Rattle.listing_arguments.specs.Arguments.{equal, digit_of, grown, read_on, digits, prefixed, number_of, helper, address_of, helper_of}
+use Rattle.listing_arguments.specs.Arguments.{equal, digit_of, grown, read_on, digits, prefixed, number_of, helper, address_of, index_of, helper_of}
 use Rattle.listing_arguments.specs.declared.Number.{Number}
 use Rattle.listing_arguments.specs.declared.Number.TheVariants.{Is, Not}
 
@@ -112,14 +111,22 @@ fits b n d p h k = by (ltb (n * b + d) (2 ^ 64)) refl
         let m : (2 ^ 64 - 1 - d) / b < n = (div-lt_iff_lt-mul p).1 (omega arith) in
         absurd (omega arith)
 
--- and a helper by its two numbers.
-whole : (w : List ℕ) → slice 0 (length w) w ≡ w
-unfolding slice
-whole w = take-length w
+-- a byte is looked for from place to place,
+pub found-here : (b : ℕ) (w : List ℕ) (i : ℕ) → i < length w → get_or w i 0 ≡ b → index_of b (drop i w) ≡ 0
+unfolding index_of
+found-here b w i h e = rw (drop-cons w i 0 h, eq-eqb _ _ e) refl
 
-pub helper-by : (w : List ℕ) (at : ℕ) (x y : Number) → at ≡ 0 + index_of 0x3d (slice 0 (length w) w) → x ≡ number_of (take at w)
+pub found-later : (b : ℕ) (w : List ℕ) (i : ℕ) → i < length w → ¬ (get_or w i 0 ≡ b)
+    → index_of b (drop i w) ≡ 1 + index_of b (drop (i + 1) w)
+unfolding index_of
+found-later b w i h e = let s : i + 1 ≡ suc i = omega arith in rw (s, drop-cons w i 0 h, ne_eqb _ _ e) refl
+
+pub found-nowhere : (b : ℕ) (w : List ℕ) (i : ℕ) → length w ≤ i → index_of b (drop i w) ≡ 0
+unfolding index_of
+found-nowhere b w i h = rw (drop_of_length-le w h) refl
+
+-- and a helper by its two numbers.
+pub helper-by : (w : List ℕ) (at : ℕ) (x y : Number) → at ≡ index_of 0x3d w → x ≡ number_of (take at w)
     → y ≡ address_of w at → helper x y ≡ helper_of w
 unfolding helper_of
-helper-by w at x y e f g =
-    let k : at ≡ index_of 0x3d w = rw (whole w, zero-add) at e in
-    rw (f, g, k)
+helper-by w at x y e f g = rw (f, g, e)

@@ -2,12 +2,11 @@
 use mathlib.Core.Path.{◌≡◌}
 use Prim.Native.Nat.{ℕ}
 use native.Mathlib.Omega.{arith}
-use Rattle.bytes.specs.Bytes.{index_of, index_after}
 use Rattle.text.specs.Text.{ascii}
 use Rattle.listing_arguments.specs.declared.Number.TheVariants.{Is, Not}
 use Rattle.listing_arguments.specs.declared.Helper.TheVariants.{Listed}
 use Rattle.listing_arguments.specs.declared.Word.TheVariants.{File, Help, Standard}
-use Rattle.listing_arguments.specs.Arguments.{word_of, digit_of, grown, digits, prefixed, number_of, base_of, address_of, helper_of}
+use Rattle.listing_arguments.specs.Arguments.{word_of, digit_of, grown, digits, prefixed, number_of, base_of, address_of, index_of, helper_of}
 
 -- word_of: an option that is not known taken for a file; an option known by its first letters; one flag of the mode taken for the other
 pub option-a-file : word_of (ascii "--hlep") ≡ File → ⊥
@@ -59,9 +58,9 @@ no-base-as-zero e = let z : ◌≡◌ {A = ℕ} 0 1 = cc in omega arith
 
 -- helper_of: id and address exchanged; an id that is cut to 32 bits
 pub exchanged : helper_of (ascii "6=7") ≡ Listed 7 6 → ⊥
-unfolding helper_of address_of prefixed digits grown digit_of index_of index_after
+unfolding helper_of address_of prefixed digits grown digit_of index_of
 exchanged e = let z : ◌≡◌ {A = ℕ} 6 7 = cc in omega (arith, z)
 
 pub id-cut : helper_of (ascii "4294967302") ≡ Listed 6 0x7f0000000000 → ⊥
-unfolding helper_of address_of prefixed digits grown digit_of index_of index_after
+unfolding helper_of address_of prefixed digits grown digit_of index_of
 id-cut e = let z : ◌≡◌ {A = ℕ} 0 1 = cc in omega arith

@@ -1,7 +1,6 @@
 -- The words that a listing or a map is asked for with: which option a word is and what it adds to the mode, a number, a helper, a base
 -- address.
 use Rattle.std.specs.Prelude.{Bool, true, false, ◌&&◌, List, [], ◌∷◌, ℕ, ◌+◌, ◌*◌, ◌^◌, ltb, eqb, length, get_or, take, drop}
-use Rattle.bytes.specs.Bytes.{index_of}
 use Rattle.base.specs.Pick.{pick}
 use Rattle.jit.specs.declared.Mode.{Mode}
 use Rattle.text.specs.Text.{ascii}
@@ -76,6 +75,11 @@ helper Not a = Unclear
 -- the address behind the first `=`; where there is none, one that is loaded as a Linux program's functions are, by ten bytes
 unfoldable pub address_of : List ℕ → ℕ → Number
 address_of w at = pick (ltb at (length w)) (number_of (drop (at + 1) w)) (Is 0x7f0000000000)
+
+-- the place of the first byte b; the length, where there is none
+unfoldable pub index_of : ℕ → List ℕ → ℕ
+index_of b [] = 0
+index_of b (a ∷ w) = pick (eqb a b) 0 (1 + index_of b w)
 
 unfoldable pub helper_of : List ℕ → Helper
 helper_of w = helper (number_of (take (index_of 0x3d w) w)) (address_of w (index_of 0x3d w))

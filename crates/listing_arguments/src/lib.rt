@@ -3,8 +3,8 @@
 
 #![tactic(auto)]
 
-ghost use Rattle.std.specs.Prelude.{◌≡◌, ◌≤◌, ◌<◌};
-ghost use Rattle.listing_arguments.specs.Arguments.{equal, word_of, mode_with, digit_of, number_of, base_of, address_of, helper_of};
+ghost use Rattle.std.specs.Prelude.{◌≡◌, ◌≤◌, ◌<◌, length};
+ghost use Rattle.listing_arguments.specs.Arguments.{equal, word_of, mode_with, digit_of, number_of, base_of, address_of, index_of, helper_of};
 ghost use Rattle.listing_arguments.specs.Arguments.{digits as Arguments·digits};
 ghost use Rattle.listing_arguments.specs.Arguments.{grown as Arguments·grown};
 ghost use Rattle.listing_arguments.specs.Arguments.{prefixed as Arguments·prefixed};
@@ -47,7 +47,7 @@ pub const SOME_ADDRESS: u64 = 0x7f0000000000;
 pub fn is(word: &[u8], name: &[u8]) -> bool
     ensures { result ≡ equal word.now name.now }
 {
-    check::same(word, name)
+    word == name
 }
 
 pub fn word_of(word: &[u8]) -> Word
@@ -203,11 +203,25 @@ fn address_of(word: &[u8], at: usize) -> Number
     number_of(&word[behind..])
 }
 
+// The place of the first byte `b`; where there is none, how many bytes there are.
+fn find(word: &[u8], b: u8) -> usize
+    ensures { (result ≡ index_of b word.now) × (result ≤ length word.now) }
+{
+    let mut i = 0;
+    while i < word.len() {
+        if word[i] == b {
+            return i;
+        }
+        i += 1;
+    }
+    i
+}
+
 // A helper, as ID or ID=ADDRESS.
 pub fn helper_of(word: &[u8]) -> Helper
     ensures { result ≡ helper_of word.now }
 {
-    let at = bytes::scan::find(word, 0, word.len(), b'=');
+    let at = find(word, b'=');
     let Number::Is(id) = number_of(&word[..at]) else {
         return Helper::Unclear;
     };
