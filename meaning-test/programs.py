@@ -106,7 +106,7 @@ def copy():
     for name in crates:
         to = os.path.join(PROJECT, "crates", name)
         shutil.rmtree(to, ignore_errors=True)
-        shutil.copytree(os.path.join(ROOT, "crates", name), to, ignore=shutil.ignore_patterns("must-fail", *["proofs"] * (name == CRATE)))
+        shutil.copytree(os.path.join(ROOT, "crates", name), to, ignore=shutil.ignore_patterns("must-fail", "out", *["proofs"] * (name == CRATE)))
     with open(os.path.join(PROJECT, "crates.txt"), "w") as file:
         file.writelines("%s:%s\n" % line for line in crates.items())
 
@@ -118,7 +118,7 @@ def refused(pieces, results):
     for name, text in (("Lib", "pub mod KernelTests\n"), ("KernelTests", theorems(pieces, results))):
         with open(os.path.join(proofs, name + ".antt"), "w") as file:
             file.write(text)
-    done = subprocess.run(["rt", "check", CRATE], cwd=PROJECT, stdout=subprocess.PIPE, stderr=subprocess.STDOUT, text=True)
+    done = subprocess.run(["rt", "check"], cwd=os.path.join(PROJECT, "crates", CRATE), stdout=subprocess.PIPE, stderr=subprocess.STDOUT, text=True)
     errors = re.findall(r"^\S*: error: `(.*?)`", done.stdout, re.M)
     is_refused = done.returncode == 1 and re.search("^logic=not-proved$", done.stdout, re.M)
     if done.returncode and not (is_refused and errors and all(name.startswith(THEOREM) for name in errors)):

@@ -100,25 +100,25 @@ def cases():
             for a in EDGES:
                 for x in IMMS:
                     d = rng.randrange(16)
-                    yield Case(("aluImm", o, w, d, x), having((d, a)))
+                    yield Case(("alu_imm", o, w, d, x), having((d, a)))
             for d in range(16):
-                yield Case(("aluImm", o, w, d, rng.getrandbits(32)), registers())
+                yield Case(("alu_imm", o, w, d, rng.getrandbits(32)), registers())
             for _ in range(300):
-                yield Case(("aluImm", o, w, rng.randrange(16), rng.getrandbits(32)), registers())
+                yield Case(("alu_imm", o, w, rng.randrange(16), rng.getrandbits(32)), registers())
     for o in SHIFT:
         for w in WIDTHS:
             for c in COUNTS:
                 for a in EDGES:
                     d = rng.randrange(16)
-                    yield Case(("shiftImm", o, w, d, c), having((d, a)))
+                    yield Case(("shift_imm", o, w, d, c), having((d, a)))
                     d = rng.choice([r for r in range(16) if r != RCX])
-                    yield Case(("shiftCl", o, w, d), having((d, a), (RCX, word() // 256 % 2**56 * 256 + c)))
+                    yield Case(("shift_cl", o, w, d), having((d, a), (RCX, word() // 256 % 2**56 * 256 + c)))
             for d in range(16):
-                yield Case(("shiftImm", o, w, d, rng.randrange(256)), registers())
-                yield Case(("shiftCl", o, w, d), registers())
+                yield Case(("shift_imm", o, w, d, rng.randrange(256)), registers())
+                yield Case(("shift_cl", o, w, d), registers())
             for _ in range(300):
-                yield Case(("shiftImm", o, w, rng.randrange(16), rng.randrange(256)), registers())
-                yield Case(("shiftCl", o, w, rng.randrange(16)), registers())
+                yield Case(("shift_imm", o, w, rng.randrange(16), rng.randrange(256)), registers())
+                yield Case(("shift_cl", o, w, rng.randrange(16)), registers())
     for w in WIDTHS:
         for a in EDGES:
             for r in range(16):
@@ -144,7 +144,7 @@ def cases():
     for w in WIDTHS:
         for d in range(16):
             for x in [x for x in EDGES if x < 2**w] + [rng.getrandbits(w) for _ in range(10)]:
-                yield Case(("movImm", w, d, x), registers())
+                yield Case(("mov_imm", w, d, x), registers())
     for c in range(256):
         for a in rng.sample(EDGES, 6) + [word(), word()]:
             d = rng.randrange(16)
@@ -164,7 +164,7 @@ def cases():
                 g = having((b, base))
                 yield Case(("store", z, s, b, x), g, value=word(), word_at=place, sent=(z, g[s]))
                 v = rng.getrandbits(min(z, 32))
-                yield Case(("storeImm", z, b, x, v), having((b, base)), value=word(), word_at=place, sent=(z, signed(v) % M64 if z == 64 else v))
+                yield Case(("store_imm", z, b, x, v), having((b, base)), value=word(), word_at=place, sent=(z, signed(v) % M64 if z == 64 else v))
         for d in range(16):
             for v in EDGES:
                 b = rng.choice(BASES)
@@ -189,14 +189,14 @@ def cases():
         if r != RSP:
             for _ in range(5):
                 top = DATA + 8 * rng.randrange(0x100, 0x1000)
-                yield Case(("callReg", r), having((RSP, top), (r, CODE + HELPER)), helper=HELPER)
+                yield Case(("call_reg", r), having((RSP, top), (r, CODE + HELPER)), helper=HELPER)
 
 
 def name(i):
     k = i[0]
-    if k in ("alu", "aluImm", "shiftImm", "shiftCl", "unary"):
+    if k in ("alu", "alu_imm", "shift_imm", "shift_cl", "unary"):
         return "%s %s %d" % (k, i[1], i[2])
-    if k in ("load", "store", "storeImm", "bswap", "movImm"):
+    if k in ("load", "store", "store_imm", "bswap", "mov_imm"):
         return "%s %d" % (k, i[1])
     return "%s %s" % (k, i[1]) if k == "jump" else k
 
@@ -251,17 +251,17 @@ def term(i):
     k, *a = i
     width = {32: "W32", 64: "W64"}
     size = {8: "S8", 16: "S16", 32: "S32", 64: "S64"}
-    if k in ("alu", "aluImm", "shiftImm", "shiftCl", "unary"):
+    if k in ("alu", "alu_imm", "shift_imm", "shift_cl", "unary"):
         return "op (%s %s)" % (k, " ".join([a[0], width[a[1]]] + [str(v) for v in a[2:]]))
-    if k in ("bswap", "movImm"):
+    if k in ("bswap", "mov_imm"):
         return "op (%s %s)" % (k, " ".join([width[a[0]]] + [str(v) for v in a[1:]]))
-    if k in ("load", "store", "storeImm"):
+    if k in ("load", "store", "store_imm"):
         return "op (%s %s)" % (k, " ".join([size[a[0]]] + [str(v) for v in a[1:]]))
     if k in ("push", "pop", "rol16"):
         return "op (%s %s)" % (k, " ".join(str(v) for v in a))
     if k == "jump":
         return "jump %s %d" % (a[0] if a[0] in ("jmp", "call") else "(jcc %s)" % a[0], a[1])
-    return "callReg %d" % a[0] if k == "callReg" else "ret"
+    return "call_reg %d" % a[0] if k == "call_reg" else "ret"
 
 
 def table_cases():
@@ -280,7 +280,7 @@ def table_cases():
     for o in ALU:
         for wd in WIDTHS:
             yield case(("alu", o, wd, 6, 13), [(6, w()), (13, w())])
-            yield case(("aluImm", o, wd, 9, t.choice(IMMS)), [(9, w())])
+            yield case(("alu_imm", o, wd, 9, t.choice(IMMS)), [(9, w())])
         yield case(("alu", o, 64, 3, 3), [(3, w())])
     yield case(("alu", "ADD", 32, 0, 1), [(0, 1), (1, 0xFFFFFFFF)])
     yield case(("alu", "ADD", 64, 0, 1), [(0, 1), (1, 0x7FFFFFFFFFFFFFFF)])
@@ -289,9 +289,9 @@ def table_cases():
     for o in SHIFT:
         for wd in WIDTHS:
             for c in (0, 1, 7, wd - 1, wd, wd + 1, 255):
-                yield case(("shiftImm", o, wd, 8, c), [(8, t.choice([w(), 0x8000000080000001]))])
-            yield case(("shiftCl", o, wd, 8), [(8, w()), (1, w())])
-            yield case(("shiftCl", o, wd, 1), [(1, w())])
+                yield case(("shift_imm", o, wd, 8, c), [(8, t.choice([w(), 0x8000000080000001]))])
+            yield case(("shift_cl", o, wd, 8), [(8, w()), (1, w())])
+            yield case(("shift_cl", o, wd, 1), [(1, w())])
     for wd in WIDTHS:
         for a in (0, 1, 2**(wd - 1), 2**wd - 1, w()):
             yield case(("unary", "NEG", wd, 5), [(5, a)])
@@ -300,13 +300,13 @@ def table_cases():
         for h, a, b in ((0, 7, 2), (0, 7, 0), (1, 0, 1), (2, 5, 3), (0, 2**wd - 1, 2**wd - 1)):
             yield case(("unary", "DIV", wd, 1), [(0, a), (1, b), (2, h)])
         yield case(("bswap", wd, 15), [(15, 0x0123456789ABCDEF)])
-    yield case(("movImm", 64, 11, 0xFEDCBA9876543210), [(11, 1)])
+    yield case(("mov_imm", 64, 11, 0xFEDCBA9876543210), [(11, 1)])
     for c in (0, 1, 8, 16, 17, 32, 40, 255):
         yield case(("rol16", 7, c), [(7, t.choice([0x0123456789ABCDEF, 0xFFFFFFFFFFFF8001]))])
     for z in SIZES:
         yield case(("load", z, 10, 0, 4294967288), [(10, w())], value=w())
         yield case(("store", z, 8, 9, 0), [(8, w()), (9, w())])
-        yield case(("storeImm", z, 5, 0, 1), [(5, w())])
+        yield case(("store_imm", z, 5, 0, 1), [(5, w())])
     yield case(("load", 64, 10, 0, 0), [(10, w())], allowed=False, value=w())
     yield case(("push", 13), [(RSP, 0), (13, w())])
     yield case(("push", 4), [(RSP, 4)])
@@ -319,17 +319,17 @@ def table_cases():
     yield case(("jump", "jmp", 0xFFFFFFFB), [])
     yield case(("jump", "call", 5), [(RSP, w())])
     yield case(("jump", "call", 5), [(RSP, w())], allowed=False)
-    yield case(("callReg", 0), [(0, w()), (1, w()), (RSP, w()), (13, w())], value=w())
+    yield case(("call_reg", 0), [(0, w()), (1, w()), (RSP, w()), (13, w())], value=w())
     yield case(("ret",), [(RSP, w())], back=77)
     yield case(("ret",), [(RSP, w())], back=77, calls=[(77, w()), (5, w())])
     yield case(("ret",), [(RSP, w())], back=78, calls=[(77, w())])
     # an access that is not allowed, whatever else there is to say; and what accesses nothing, to which it is all the same
-    for i in [("push", 13), ("pop", 13), ("pop", RSP), ("callReg", 0), ("ret",)]:
+    for i in [("push", 13), ("pop", 13), ("pop", RSP), ("call_reg", 0), ("ret",)]:
         yield case(i, [(RSP, w())], allowed=False, value=w(), back=77)
     for z in SIZES:
         yield case(("load", z, 10, 0, 0), [(10, w())], allowed=False, value=w())
         yield case(("store", z, 8, 9, 0), [(8, w()), (9, w())], allowed=False)
-        yield case(("storeImm", z, 5, 0, 1), [(5, w())], allowed=False)
+        yield case(("store_imm", z, 5, 0, 1), [(5, w())], allowed=False)
     yield case(("ret",), [(RSP, w())], allowed=False, back=77, calls=[(77, w())])
     yield case(("ret",), [(RSP, w())], allowed=False, back=78, calls=[(77, w())])
     yield case(("alu", "ADD", 64, 6, 13), [(6, w()), (13, w())], allowed=False)
@@ -338,8 +338,8 @@ def table_cases():
     yield case(("jump", "JE", 5), [], allowed=False)
     # a constant of 32 bits, into a register whose upper half is set: it is cleared, and no sign is extended
     for d, x in ((11, 0xFEDCBA98), (1, 0x7FFFFFFF), (RSP, 0)):
-        yield case(("movImm", 32, d, x), [(d, M64 - 1)])
-    yield case(("movImm", 32, 0, 5), [(0, M64 - 1)], allowed=False)
+        yield case(("mov_imm", 32, d, x), [(d, M64 - 1)])
+    yield case(("mov_imm", 32, 0, 5), [(0, M64 - 1)], allowed=False)
 
 
 CODES = {"running": 0, "finished": 1, "faulted": 2, "unbalanced": 3, "divided": 4}

@@ -37,20 +37,20 @@ def encode(i):
     if k == "alu":
         o, w, s, d = a
         return rex(w == 64, s, d) + [ALU_OPCODE[o]] + modrm(3, s, d)
-    if k == "aluImm":
+    if k == "alu_imm":
         o, w, d, x = a
         code, ext = ALU_IMM[o]
         return rex(w == 64, 0, d) + [code] + modrm(3, ext, d) + le(4, x)
-    if k == "shiftImm":
+    if k == "shift_imm":
         o, w, d, x = a
         return rex(w == 64, 0, d) + [0xC1] + modrm(3, SHIFT[o], d) + [x]
-    if k == "shiftCl":
+    if k == "shift_cl":
         o, w, d = a
         return rex(w == 64, 0, d) + [0xD3] + modrm(3, SHIFT[o], d)
     if k == "unary":
         o, w, r = a
         return rex(w == 64, 0, r) + [0xF7] + modrm(3, UNARY[o], r)
-    if k == "movImm":
+    if k == "mov_imm":
         w, d, x = a
         return rex(w == 64, 0, d) + [0xB8 + d % 8] + le(w // 8, x)
     if k == "rol16":
@@ -65,13 +65,13 @@ def encode(i):
     if k == "store":
         z, s, b, x = a
         return ([0x66] if z == 16 else []) + rex(z == 64, s, b, z == 8) + [0x88 if z == 8 else 0x89] + memory(s, b, x)
-    if k == "storeImm":
+    if k == "store_imm":
         z, b, x, v = a
         return ([0x66] if z == 16 else []) + rex(z == 64, 0, b) + [0xC6 if z == 8 else 0xC7] + memory(0, b, x) + le(min(z, 32) // 8, v)
     if k == "jump":
         j, x = a
         return {"jmp": [0xE9], "call": [0xE8]}.get(j) + le(4, x) if j in ("jmp", "call") else [0x0F, 0x80 + COND[j]] + le(4, x)
-    if k == "callReg":
+    if k == "call_reg":
         return rex(0, 0, a[0]) + [0xFF] + modrm(3, 2, a[0])
     assert k == "ret"
     return [0xC3]

@@ -75,15 +75,15 @@ def result(o, w, a, b):
     }[o]()
 
 
-def aluWrites(o, d, v):
+def alu_writes(o, d, v):
     return [] if o in ("CMP", "TEST") else [(d, v)]
 
 
-def overSum(w, a, b, r):
+def over_sum(w, a, b, r):
     return negative(w, a) == negative(w, b) and negative(w, a) != negative(w, r)
 
 
-def overDifference(w, a, b, r):
+def over_difference(w, a, b, r):
     return negative(w, a) != negative(w, b) and negative(w, a) != negative(w, r)
 
 
@@ -91,12 +91,12 @@ def status(w, r, c, o):
     return Status(c, r == 0, negative(w, r), o)
 
 
-def aluStatus(o, w, a, b, f):
+def alu_status(o, w, a, b, f):
     r = result(o, w, a, b)
     if o == "ADD":
-        return status(w, r, 2**w <= a + b, overSum(w, a, b, r))
+        return status(w, r, 2**w <= a + b, over_sum(w, a, b, r))
     if o in ("SUB", "CMP"):
-        return status(w, r, a < b, overDifference(w, a, b, r))
+        return status(w, r, a < b, over_difference(w, a, b, r))
     if o == "MOV":
         return f
     return status(w, r, False, False)
@@ -109,7 +109,7 @@ def counted(w, c):
     return c % w
 
 
-def inCl(g):
+def in_cl(g):
     return g[RCX] % 2**8
 
 
@@ -121,25 +121,25 @@ def shifted(o, w, a, c):
     return a // 2**c + ((2**w - 2 ** (w - c)) if negative(w, a) else 0)
 
 
-def lastOut(o, w, a, c):
+def last_out(o, w, a, c):
     return odd(a // 2 ** (w - c)) if o == "SHL" else odd(a // 2 ** (c - 1))
 
 
-def shiftOver(o, w, a):
+def shift_over(o, w, a):
     if o == "SHL":
-        return negative(w, shifted("SHL", w, a, 1)) != lastOut("SHL", w, a, 1)
+        return negative(w, shifted("SHL", w, a, 1)) != last_out("SHL", w, a, 1)
     if o == "SHR":
         return negative(w, a)
     return False
 
 
-def shiftStatus(o, w, a, c, f, u):
+def shift_status(o, w, a, c, f, u):
     if c == 0:
         return f
-    return status(w, shifted(o, w, a, c), lastOut(o, w, a, c), shiftOver(o, w, a) if c == 1 else u.flags.OF)
+    return status(w, shifted(o, w, a, c), last_out(o, w, a, c), shift_over(o, w, a) if c == 1 else u.flags.OF)
 
 
-def rolCount(i):
+def rol_count(i):
     return i % 32
 
 
@@ -147,11 +147,11 @@ def rolled(a, c):
     return a * 2 ** (c % 16) % 2**16 + a % 2**16 // 2 ** (16 - c % 16)
 
 
-def keptAbove16(a, v):
+def kept_above16(a, v):
     return a // 2**16 * 2**16 + v
 
 
-def rolStatus(a, c, f, u):
+def rol_status(a, c, f, u):
     r = rolled(a, c)
     if c == 0:
         return f
@@ -169,7 +169,7 @@ def opposite(w, a):
     return (2**w - a) % 2**w
 
 
-def negStatus(w, a):
+def neg_status(w, a):
     return status(w, opposite(w, a), a != 0, 2 * a == 2**w)
 
 
@@ -177,7 +177,7 @@ def product(w, g, r):
     return rd(w, g, RAX) * rd(w, g, r)
 
 
-def mulStatus(w, h, u):
+def mul_status(w, h, u):
     return Status(h != 0, u.flags.ZF, u.flags.SF, h != 0)
 
 
@@ -197,7 +197,7 @@ def up(x):
     return (x + 8) % M64
 
 
-def unaryWrites(o, w, g, r):
+def unary_writes(o, w, g, r):
     if o == "NEG":
         return [(r, opposite(w, rd(w, g, r)))]
     if o == "MUL":
@@ -207,15 +207,15 @@ def unaryWrites(o, w, g, r):
     return [(RAX, q), (RDX, m)]
 
 
-def unaryStatus(o, w, g, r, u):
+def unary_status(o, w, g, r, u):
     if o == "NEG":
-        return negStatus(w, rd(w, g, r))
+        return neg_status(w, rd(w, g, r))
     if o == "MUL":
-        return mulStatus(w, product(w, g, r) // 2**w, u)
+        return mul_status(w, product(w, g, r) // 2**w, u)
     return u.flags
 
 
-def writesOf(i, g, u):
+def writes_of(i, g, u):
     k, *a = i
     if k == "push":
         return [(RSP, down(g[RSP]))]
@@ -223,67 +223,67 @@ def writesOf(i, g, u):
         return [(RSP, up(g[RSP])), (a[0], u.value % 2**64)]
     if k == "alu":
         o, w, s, d = a
-        return aluWrites(o, d, result(o, w, rd(w, g, d), rd(w, g, s)))
-    if k == "aluImm":
+        return alu_writes(o, d, result(o, w, rd(w, g, d), rd(w, g, s)))
+    if k == "alu_imm":
         o, w, d, x = a
-        return aluWrites(o, d, result(o, w, rd(w, g, d), extended(w, x)))
-    if k == "shiftImm":
+        return alu_writes(o, d, result(o, w, rd(w, g, d), extended(w, x)))
+    if k == "shift_imm":
         o, w, d, x = a
         return [(d, shifted(o, w, rd(w, g, d), counted(w, x)))]
-    if k == "shiftCl":
+    if k == "shift_cl":
         o, w, d = a
-        return [(d, shifted(o, w, rd(w, g, d), counted(w, inCl(g))))]
+        return [(d, shifted(o, w, rd(w, g, d), counted(w, in_cl(g))))]
     if k == "unary":
         o, w, r = a
-        return unaryWrites(o, w, g, r)
-    if k == "movImm":
+        return unary_writes(o, w, g, r)
+    if k == "mov_imm":
         w, d, x = a
         return [(d, x % 2**w)]
     if k == "rol16":
         d, x = a
-        return [(d, keptAbove16(rd(64, g, d), rolled(rd(64, g, d), rolCount(x))))]
+        return [(d, kept_above16(rd(64, g, d), rolled(rd(64, g, d), rol_count(x))))]
     if k == "bswap":
         w, d = a
         return [(d, swapped(w // 8, rd(w, g, d)))]
     if k == "load":
         z, b, d, x = a
         return [(d, u.value % 2**z)]
-    assert k in ("store", "storeImm")
+    assert k in ("store", "store_imm")
     return []
 
 
-def statusOf(i, g, f, u):
+def status_of(i, g, f, u):
     k, *a = i
     if k == "alu":
         o, w, s, d = a
-        return aluStatus(o, w, rd(w, g, d), rd(w, g, s), f)
-    if k == "aluImm":
+        return alu_status(o, w, rd(w, g, d), rd(w, g, s), f)
+    if k == "alu_imm":
         o, w, d, x = a
-        return aluStatus(o, w, rd(w, g, d), extended(w, x), f)
-    if k == "shiftImm":
+        return alu_status(o, w, rd(w, g, d), extended(w, x), f)
+    if k == "shift_imm":
         o, w, d, x = a
-        return shiftStatus(o, w, rd(w, g, d), counted(w, x), f, u)
-    if k == "shiftCl":
+        return shift_status(o, w, rd(w, g, d), counted(w, x), f, u)
+    if k == "shift_cl":
         o, w, d = a
-        return shiftStatus(o, w, rd(w, g, d), counted(w, inCl(g)), f, u)
+        return shift_status(o, w, rd(w, g, d), counted(w, in_cl(g)), f, u)
     if k == "unary":
         o, w, r = a
-        return unaryStatus(o, w, g, r, u)
+        return unary_status(o, w, g, r, u)
     if k == "rol16":
         d, x = a
-        return rolStatus(rd(64, g, d), rolCount(x), f, u)
+        return rol_status(rd(64, g, d), rol_count(x), f, u)
     return f
 
 
-def faultsOf(i, g):
+def faults_of(i, g):
     return i[0] == "unary" and i[1] == "DIV" and divides(i[2], g, i[3])
 
 
-PLAIN = ("push", "pop", "alu", "aluImm", "shiftImm", "shiftCl", "unary", "movImm", "rol16", "bswap", "load", "store", "storeImm")
+PLAIN = ("push", "pop", "alu", "alu_imm", "shift_imm", "shift_cl", "unary", "mov_imm", "rol16", "bswap", "load", "store", "store_imm")
 
 
 def touches(i):
-    return i[0] in ("push", "pop", "load", "store", "storeImm", "callReg", "ret") or i[:2] == ("jump", "call")
+    return i[0] in ("push", "pop", "load", "store", "store_imm", "call_reg", "ret") or i[:2] == ("jump", "call")
 
 
 def holds(c, f):
@@ -304,7 +304,7 @@ def holds(c, f):
 def effect(i, g, f, u):
     """writes, flags, control"""
     if i[0] in PLAIN:
-        return writesOf(i, g, u), statusOf(i, g, f, u), ("raises",) if faultsOf(i, g) else ("next",)
+        return writes_of(i, g, u), status_of(i, g, f, u), ("raises",) if faults_of(i, g) else ("next",)
     if i[0] == "jump":
         _, j, x = i
         if j == "jmp":
@@ -312,7 +312,7 @@ def effect(i, g, f, u):
         if j == "call":
             return [(RSP, down(g[RSP]))], f, ("calls", x)
         return [], f, ("goes", x) if holds(j, f) else ("next",)
-    if i[0] == "callReg":
+    if i[0] == "call_reg":
         return [], f, ("helps",)
     return [(RSP, up(g[RSP]))], f, ("returns",)
 
@@ -355,11 +355,11 @@ def does(i, end, s, u):
 
 def undefined(i, g):
     k, *a = i
-    if k in ("shiftImm", "shiftCl"):
-        c = counted(a[1], a[3] if k == "shiftImm" else inCl(g))
+    if k in ("shift_imm", "shift_cl"):
+        c = counted(a[1], a[3] if k == "shift_imm" else in_cl(g))
         return {"OF"} if c > 1 else set()
     if k == "rol16":
-        return {"OF"} if rolCount(a[1]) > 1 else set()
+        return {"OF"} if rol_count(a[1]) > 1 else set()
     if k == "unary":
         return {"NEG": set(), "MUL": {"ZF", "SF"}, "DIV": {"CF", "ZF", "SF", "OF"}}[a[0]]
     return set()

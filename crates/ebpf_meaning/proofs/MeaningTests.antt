@@ -1,5 +1,5 @@
 -- Tests of the meaning: 684 steps, each computed by antt from given registers, and what comes of it. The table is written by
--- meaning-test/run, from what an interpreter of e_bPF that reads nothing from antt makes of each step; do not edit it.
+-- meaning-test/run, from what an interpreter of eBPF that reads nothing from antt makes of each step; do not edit it.
 use mathlib.Core.Path.{◌≡◌, refl}
 use mathlib.Core.List.{List, [], ◌∷◌, map}
 use Prim.Native.Nat.{ℕ}

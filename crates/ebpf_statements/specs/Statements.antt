@@ -1,4 +1,4 @@
--- The statements of e_bPF assembler, as llvm-objdump writes them. docs/LISTING.md lists the forms.
+-- The statements of eBPF assembler, as llvm-objdump writes them. docs/LISTING.md lists the forms.
 use Rattle.std.specs.Prelude.{List, [], ◌∷◌, ◌++◌, ℕ, ◌+◌, ◌*◌, ◌^◌, eqb}
 use Rattle.base.specs.Pick.{pick}
 use Rattle.base.specs.Widths.{size_bits}

@@ -1,4 +1,4 @@
-// The statements of e_bPF assembler, one function for each form: a binary operation with a given operator, a load, a store, a jump, a
+// The statements of eBPF assembler, one function for each form: a binary operation with a given operator, a load, a store, a jump, a
 // call, as llvm-objdump writes them. specs/Statements.antt has each text. Which statement a slot is, `ebpf_text` says.
 
 #![tactic(auto)]

@@ -1,4 +1,4 @@
--- A slot in assembler, as llvm-objdump writes e_bPF: which statement its opcode picks, and the operators. The statements' own texts are
+-- A slot in assembler, as llvm-objdump writes eBPF: which statement its opcode picks, and the operators. The statements' own texts are
 -- ebpf_statements/specs/Statements.antt.
 use Rattle.std.specs.Prelude.{List, [], ◌∷◌, ◌++◌, ℕ, ◌+◌, ◌/◌, ltb, length}
 use Rattle.base.specs.Pick.{pick}

@@ -1,4 +1,4 @@
-// A slot of the program in assembler, as llvm-objdump writes e_bPF: `r0 = *(u8 *)(r1 + 12)`, `if r1 == 5 goto +3`. Here its opcode picks the
+// A slot of the program in assembler, as llvm-objdump writes eBPF: `r0 = *(u8 *)(r1 + 12)`, `if r1 == 5 goto +3`. Here its opcode picks the
 // statement and the operator; `ebpf_statements` has the forms. specs/Assembler.antt says each text.
 
 #![tactic(auto)]
