@@ -1,8 +1,8 @@
 /* Ndakoleem for C: turns an eBPF filter into the x86-64 page that decides which packets are kept.
  *
- * Link with libndakoleem.a, which `rt staticlib ndakoleem` writes to target/staticlib; a caller of ndakoleem_translate_mapped_1 or
- * ndakoleem_translate_mapped_into links libndakoleem_map.a too (`rt staticlib ndakoleem_map`), and one of ndakoleem_run_packet_1 or
- * ndakoleem_run_packet_into libndakoleem_replay.a (`rt staticlib ndakoleem_replay`), which takes memset from the C library. Each library is
+ * Link with libndakoleem.a, which `./run libraries` writes to target/staticlib; a caller of ndakoleem_translate_mapped_1 or
+ * ndakoleem_translate_mapped_into links libndakoleem_map.a too, and one of ndakoleem_run_packet_1 or
+ * ndakoleem_run_packet_into libndakoleem_replay.a, which takes memset from the C library. Each library is
  * x86-64 code, allocates nothing, keeps nothing between calls, calls nothing of the operating system, and can be called by several threads at
  * once, each with its own buffers.
  *

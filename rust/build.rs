@@ -1,5 +1,5 @@
 //! Tells cargo where the static libraries are: the folder that
-//! NDAKOLEEM_LIB names, or the one in which `rt staticlib` leaves them.
+//! NDAKOLEEM_LIB names, or the one in which `./run libraries` leaves them.
 
 use std::path::PathBuf;
 
@@ -10,7 +10,7 @@ fn main() {
     for name in ["ndakoleem", "ndakoleem_map", "ndakoleem_replay"] {
         let library = folder.join(format!("lib{name}.a"));
         if !library.exists() {
-            panic!("{} is not there: `rt staticlib {name}` writes it", library.display());
+            panic!("{} is not there: `./run libraries` writes it", library.display());
         }
         println!("cargo:rerun-if-changed={}", library.display());
     }

@@ -128,9 +128,9 @@ kit_command() {
 
 # ---- building ----------------------------------------------------------------------------------------------------------------------------
 
-# up_to_date FILE SOURCE..: the file is there, and no source is newer.
+# up_to_date FILE SOURCE..: the file is there, and no source is newer. What checks leave in the folders out/ is no source.
 up_to_date() {
-    [ -e "$1" ] && [ -z "$(find "${@:2}" -newer "$1" -print -quit)" ]
+    [ -e "$1" ] && [ -z "$(find "${@:2}" -name out -type d -prune -o -type f -newer "$1" -print -quit)" ]
 }
 
 build_library() {
@@ -141,14 +141,13 @@ build_library() {
     if [ ${#old[@]} -eq 0 ]; then return; fi
     need rt
     echo "proving and building the libraries (the first time: some minutes)" >&2
-    mkdir -p "$root/target"
+    mkdir -p "$root/target/staticlib"
     for archive in "${old[@]}"; do
         name=$(basename "$archive" .a)
         name=${name#lib}
-        (cd "$root" && rt staticlib "$name") >"$log" 2>&1 || { cat "$log" >&2; fail "the library $name is not built"; }
+        (cd "$root/crates/$name" && rt lib) >"$log" 2>&1 || { cat "$log" >&2; fail "the library $name is not built"; }
+        cp "$root/crates/$name/out/lib$name.a" "$archive"
     done
-    # An archive is not written anew where nothing that it is made of has changed.
-    touch "${old[@]}"
 }
 
 # Debian's rustc, and not another that stands before it in PATH: the same for everyone, and on Arm the one that has x86-64's library.

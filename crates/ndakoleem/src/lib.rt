@@ -1,4 +1,4 @@
-// The translator and the sentences as C sees them: the library that `rt staticlib ndakoleem` writes. It only hands on what it is given and
+// The translator and the sentences as C sees them: the static library that `rt lib` writes here. It only hands on what it is given and
 // puts the answer into a struct of four numbers, since an enum does not pass the boundary. The declarations for C are include/ndakoleem.h.
 
 #![tactic(auto)]

@@ -1,4 +1,4 @@
-// The translator that also writes the page's map, as C sees it: the library that `rt staticlib ndakoleem_map` writes. It stands apart from
+// The translator that also writes the page's map, as C sees it: the static library that `rt lib` writes here. It stands apart from
 // crates/ndakoleem so that a loader that wants no map links nothing of it, and its translation costs what it did: in one library the two would
 // share the functions below them, and the compiler inlines a long function where it has one caller only. As there, it only hands on what it
 // is given and puts the answer into a struct of numbers, since an enum does not pass the boundary. The declarations for C are

@@ -1,4 +1,4 @@
-// A packet's run on the model, as C sees it: the library that `rt staticlib ndakoleem_replay` writes. It stands apart from crates/ndakoleem so
+// A packet's run on the model, as C sees it: the static library that `rt lib` writes here. It stands apart from crates/ndakoleem so
 // that a loader that compares nothing links nothing of it, and its translation costs what it did (crates/ndakoleem_map). It only hands on
 // what it is given and puts the answer into a struct of numbers, since an enum does not pass the boundary. The declarations for C are
 // include/ndakoleem.h.
