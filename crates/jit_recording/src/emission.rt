@@ -1,6 +1,5 @@
 // Where emitting has got to, the next position of the page and the next entry of the jump tables: what the Rust's `JitCompiler` and
-// `JitMemory` change as they emit. `move_on` and `count_jump` are lent it and update it, as `&mut self` there; they, and `onward` and
-// `counted`, which lend one, are proved by a walk of their MIR by hand. All others have it by value, so that they need no walk.
+// `JitMemory` change as they emit. `move_on` and `count_jump` are lent it and update it, as `&mut self` there; all others have it by value.
 ghost use Rattle.std.specs.Prelude.{◌≡◌, ◌+◌, ◌^◌, ◌<◌};
 ghost use Rattle.jit.specs.Slots.{target_of};
 ghost use Rattle.jit_recording.specs.Lent.{Recorded, Recordable, reached};
