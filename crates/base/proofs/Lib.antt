@@ -3,4 +3,3 @@ pub mod Table
 pub mod Lists
 pub mod BytesLaws
 pub mod CasesLaws
-pub mod Place
