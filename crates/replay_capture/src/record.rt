@@ -19,7 +19,7 @@ pub fn run_copy(
     ensures { Copied prog counts copy packet result }
 {
     let n = packet.len();
-    bytes::copy(packet, copy);
+    copy[..n].copy_from_slice(packet);
     run_packet(codes, prog, counts, &mut copy[..n])
 }
 
@@ -28,6 +28,7 @@ pub fn keep(kept: &mut [u8], at: usize, packet: &[u8]) -> usize
     requires { at + length packet.now ≤ length kept.old }
     ensures { Put kept at packet result }
 {
-    bytes::copy(packet, &mut kept[at..]);
-    at + packet.len()
+    let end = at + packet.len();
+    kept[at..end].copy_from_slice(packet);
+    end
 }
