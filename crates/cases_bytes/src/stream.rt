@@ -39,7 +39,8 @@ pub fn window_of(start: usize, end: usize) -> Window
     }
 }
 
-fn failed_at(end: usize, reason: Reason) -> Window
+// What is there of one of which a read failed.
+pub fn failed_at(end: usize, reason: Reason) -> Window
     ensures { (result.start ≡ 0) × (result.end ≡ end) }
 {
     Window {

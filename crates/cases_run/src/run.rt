@@ -5,11 +5,11 @@ ghost use Rattle.cases_bytes.specs.Lent.{Inside};
 use crate::marks;
 use cases_bytes::limits::least;
 use cases_bytes::parts::Case;
-use cases_bytes::stream::Window;
 use cases_bytes::{answer, limits, parts, stream};
 use cases_problems::Problem;
 use jit::{Flags, Mode, Refusal};
 use jit_translate::translate::{Answer, translate};
+use streams::Source;
 
 // How many bytes the answer is; 0 where there is a problem.
 #[derive(Clone, Copy)]
@@ -321,7 +321,7 @@ fn not_done(problem: Problem) -> Done
 
 // The answer is put at the start of `out`. After a problem the stream is not to be gone on with.
 pub fn run_next(
-    fd: i32,
+    from: &Source,
     input: &mut [u8],
     start: usize,
     end: usize,
@@ -336,16 +336,7 @@ pub fn run_next(
     requires { (start ≤ end) × (end ≤ length input.old) }
     ensures { (result.start ≤ result.end) × ((result.end ≤ length input.new) × (result.size ≤ length out.new)) }
 {
-    let record = stream::next_record(
-        fd,
-        input,
-        Window {
-            start,
-            end,
-            failed: false,
-        },
-        limits::CASE,
-    );
+    let record = stream::next_record(from, input, stream::window_of(start, end), limits::CASE);
     let unread = record.problem;
     if !cases_problems::is_nothing(unread) {
         return not_done(unread);

@@ -4,7 +4,7 @@ ghost use Rattle.std.specs.Prelude.{◌≡◌, ◌≤◌, length};
 use cases_bytes::stream;
 use cases_bytes::stream::Window;
 use jit::LONGEST_PROGRAM;
-use libc::STDIN_FILENO;
+use streams::Source;
 
 // One byte more than a program may have: a longer one is refused for it, however long it is.
 pub const INPUT: usize = LONGEST_PROGRAM + 1;
@@ -16,52 +16,56 @@ pub struct Filter {
     pub failed: bool,
 }
 
-fn read_standard(input: &mut [u8]) -> Window
+fn read_standard(rt: &HostRuntime, input: &mut [u8]) -> Window
     ensures { (result.start ≡ 0) × (result.end ≤ length input.new) }
 {
-    let read = stream::fill(STDIN_FILENO, input, 0, INPUT);
+    let read = stream::fill(&streams::input(rt), input, 0, INPUT);
     if read.failed {
-        os::fail(b"standard input");
+        streams::fail(rt, b"standard input", read.reason);
+    }
+    read
+}
+
+// The file with that name, which is open.
+fn read_open(rt: &HostRuntime, name: &[u8], file: &Source, input: &mut [u8]) -> Window
+    ensures { (result.start ≡ 0) × (result.end ≤ length input.new) }
+{
+    let read = stream::fill(file, input, 0, INPUT);
+    if read.failed {
+        streams::fail(rt, name, read.reason);
     }
     read
 }
 
 // The file whose name is the argument `index`.
-fn read_file(index: usize, input: &mut [u8]) -> Window
+fn read_file(rt: &HostRuntime, index: usize, input: &mut [u8]) -> Window
     ensures { (result.start ≡ 0) × (result.end ≤ length input.new) }
 {
-    let mut path = io::buffer();
-    let n = os::arg(index, &mut path);
-    let fd = os::open_read(&path[..n]);
-    if fd < 0 {
-        os::fail(&path[..n]);
-        return Window {
-            start: 0,
-            end: 0,
-            failed: true,
-        };
+    let mut path = streams::word_room();
+    let n = streams::word_or_empty(rt, index, &mut path);
+    match streams::open(rt, &path[..n]) {
+        Ok(file) => read_open(rt, &path[..n], &file, input),
+        Err(reason) => {
+            streams::fail(rt, &path[..n], reason);
+            stream::failed_at(0, reason)
+        }
     }
-    let read = stream::fill(fd, input, 0, INPUT);
-    if read.failed {
-        os::fail(&path[..n]);
-    }
-    read
 }
 
-fn read_input(file: usize, input: &mut [u8]) -> Window
+fn read_input(rt: &HostRuntime, file: usize, input: &mut [u8]) -> Window
     ensures { (result.start ≡ 0) × (result.end ≤ length input.new) }
 {
     if file == 0 {
-        return read_standard(input);
+        return read_standard(rt, input);
     }
-    read_file(file, input)
+    read_file(rt, file, input)
 }
 
 // The filter in the file whose name is the argument `file`, or on standard input where that is 0.
-pub fn read_filter(file: usize, input: &mut [u8]) -> Filter
+pub fn read_filter(rt: &HostRuntime, file: usize, input: &mut [u8]) -> Filter
     ensures { result.length ≤ length input.new }
 {
-    let read = read_input(file, input);
+    let read = read_input(rt, file, input);
     Filter {
         length: read.end,
         failed: read.failed,

@@ -5,7 +5,6 @@ ghost use Rattle.listing_options.specs.Help.{end_of, flags_help, page_help, help
 
 use crate::options::Program;
 use jit::{LONGEST_PAGE, MOST_HELPERS, SHORTEST_PAGE};
-use libc::STDOUT_FILENO;
 use listing_arguments::SOME_ADDRESS;
 use text::form::put_form;
 use text::text::{put_byte, put_text};
@@ -94,7 +93,7 @@ pub fn put_helpers(out: &mut [u8], at: usize, program: Program) -> usize
 }
 
 // A line for each option, at the start of `out`.
-pub fn explain_options(out: &mut [u8], program: Program) -> usize
+pub fn explain_options(rt: &HostRuntime, out: &mut [u8], program: Program) -> usize
     ensures { Says out 0 result (options_help program) }
 {
     let flags = put_flags(out, 0, program);
@@ -102,7 +101,7 @@ pub fn explain_options(out: &mut [u8], program: Program) -> usize
     let helpers = put_helpers(out, page, program);
     let end = put_text(out, helpers, b"  --help               this text\n");
     if end <= out.len() {
-        io::write_all(STDOUT_FILENO, &out[..end]);
+        streams::show(rt, &out[..end]);
     }
     end
 }

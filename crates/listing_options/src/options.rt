@@ -7,7 +7,6 @@ ghost use Rattle.listing_options.specs.Options.{Held};
 ghost use Rattle.listing_options.specs.Help.{name_of, complaint};
 
 use jit::{Flags, LONGEST_PAGE, MOST_HELPERS, Mode, SHORTEST_PAGE};
-use libc::STDERR_FILENO;
 use listing_arguments::{Helper, Number, Word, helper_of, mode_with, number_of, word_of};
 use text::form::put_form;
 use text::text::put_text;
@@ -69,7 +68,13 @@ fn put_name(line: &mut [u8], program: Program) -> usize
 }
 
 // What is wrong, and the word with which it is so: a sentence, which is put into `line` and written to standard error.
-pub fn complain(line: &mut [u8], program: Program, what: &[u8], word: &[u8]) -> usize
+pub fn complain(
+    rt: &HostRuntime,
+    line: &mut [u8],
+    program: Program,
+    what: &[u8],
+    word: &[u8],
+) -> usize
     ensures { Says line 0 result (complaint program (given what) (given word)) }
 {
     let name = put_name(line, program);
@@ -77,19 +82,19 @@ pub fn complain(line: &mut [u8], program: Program, what: &[u8], word: &[u8]) -> 
     let with = put_text(line, wrong, word);
     let end = put_text(line, with, b" (--help explains the arguments)\n");
     if end <= line.len() {
-        io::write_all(STDERR_FILENO, &line[..end]);
+        streams::tell(rt, &line[..end]);
     }
     end
 }
 
 // The options, of which it is said what is wrong with them.
-pub fn wronged(options: Options, what: &[u8], word: &[u8]) -> Options
+pub fn wronged(rt: &HostRuntime, options: Options, what: &[u8], word: &[u8]) -> Options
     ensures { (result.page ≡ options.page) × (result.helpers ≡ options.helpers) }
 {
     let program = options.program;
     let mut changed = options;
     let mut line = [0u8; SENTENCE];
-    complain(&mut line, program, what, word);
+    complain(rt, &mut line, program, what, word);
     changed.wrong = true;
     changed
 }
@@ -104,7 +109,7 @@ fn clamped(n: u64) -> usize
     LARGEST
 }
 
-fn with_page(options: Options, word: &[u8]) -> Options
+fn with_page(rt: &HostRuntime, options: Options, word: &[u8]) -> Options
     requires { options.page ≤ longest_page + 1 }
     ensures { (result.page ≤ longest_page + 1) × (result.helpers ≡ options.helpers) }
 {
@@ -115,19 +120,20 @@ fn with_page(options: Options, word: &[u8]) -> Options
             changed.page = clamped(n);
             changed
         }
-        Number::Not => wronged(changed, b"the page size is not a number: ", word),
+        Number::Not => wronged(rt, changed, b"the page size is not a number: ", word),
     }
 }
 
-fn with_one_too_many(options: Options) -> Options
+fn with_one_too_many(rt: &HostRuntime, options: Options) -> Options
     ensures { (result.page ≡ options.page) × (result.helpers ≡ options.helpers) }
 {
     let mut most = [0u8; WORD];
     let end = put_form(&mut most, 0, b"# helpers", &[MOST_HELPERS as u64]);
-    wronged(options, b"a filter has at most ", &most[..end])
+    wronged(rt, options, b"a filter has at most ", &most[..end])
 }
 
 fn with_listed(
+    rt: &HostRuntime,
     options: Options,
     id: u32,
     address: u64,
@@ -139,10 +145,10 @@ fn with_listed(
 {
     let at = options.helpers;
     if ids.len() <= at {
-        return with_one_too_many(options);
+        return with_one_too_many(rt, options);
     }
     if addresses.len() <= at {
-        return with_one_too_many(options);
+        return with_one_too_many(rt, options);
     }
     let mut changed = options;
     ids[at] = id;
@@ -151,15 +157,22 @@ fn with_listed(
     changed
 }
 
-fn with_helper(options: Options, word: &[u8], ids: &mut [u32], addresses: &mut [u64]) -> Options
+fn with_helper(
+    rt: &HostRuntime,
+    options: Options,
+    word: &[u8],
+    ids: &mut [u32],
+    addresses: &mut [u64],
+) -> Options
     requires { Held options ids addresses }
     ensures { Held result ids.exit addresses.exit }
 {
     let mut changed = options;
     changed.helper_next = false;
     match helper_of(word) {
-        Helper::Listed(id, address) => with_listed(changed, id, address, ids, addresses),
+        Helper::Listed(id, address) => with_listed(rt, changed, id, address, ids, addresses),
         Helper::Unclear => wronged(
+            rt,
             changed,
             b"a helper is ID or ID=ADDRESS, in decimal or behind 0x in hexadecimal, and not ",
             word,
@@ -167,12 +180,12 @@ fn with_helper(options: Options, word: &[u8], ids: &mut [u32], addresses: &mut [
     }
 }
 
-fn with_file(options: Options, index: usize, word: &[u8]) -> Options
+fn with_file(rt: &HostRuntime, options: Options, index: usize, word: &[u8]) -> Options
     ensures { (result.page ≡ options.page) × (result.helpers ≡ options.helpers) }
 {
     let mut changed = options;
     if 0 < options.file {
-        return wronged(changed, b"a second file: ", word);
+        return wronged(rt, changed, b"a second file: ", word);
     }
     changed.file = index;
     changed
@@ -188,7 +201,7 @@ fn with_mode(options: Options, word: Word) -> Options
 }
 
 // A word that is no number and no helper.
-fn with_option(options: Options, index: usize, word: &[u8]) -> Options
+fn with_option(rt: &HostRuntime, options: Options, index: usize, word: &[u8]) -> Options
     ensures { (result.page ≡ options.page) × (result.helpers ≡ options.helpers) }
 {
     let mut changed = options;
@@ -215,13 +228,14 @@ fn with_option(options: Options, index: usize, word: &[u8]) -> Options
             changed.help = true;
             changed
         }
-        Word::File => with_file(options, index, word),
-        Word::Unknown => wronged(options, b"unknown option ", word),
+        Word::File => with_file(rt, options, index, word),
+        Word::Unknown => wronged(rt, options, b"unknown option ", word),
     }
 }
 
 // The options with one more word, which is the argument `index`.
 pub fn with_word(
+    rt: &HostRuntime,
     options: Options,
     index: usize,
     word: &[u8],
@@ -232,36 +246,41 @@ pub fn with_word(
     ensures { Held result ids.exit addresses.exit }
 {
     if options.page_next {
-        return with_page(options, word);
+        return with_page(rt, options, word);
     }
     if options.helper_next {
-        return with_helper(options, word, ids, addresses);
+        return with_helper(rt, options, word, ids, addresses);
     }
-    with_option(options, index, word)
+    with_option(rt, options, index, word)
 }
 
 // The argument `index`, which is read here; one that is too long to read is no option, no number and no file.
-fn with_argument(options: Options, index: usize, ids: &mut [u32], addresses: &mut [u64]) -> Options
+fn with_argument(
+    rt: &HostRuntime,
+    options: Options,
+    index: usize,
+    ids: &mut [u32],
+    addresses: &mut [u64],
+) -> Options
     requires { Held options ids addresses }
     ensures { Held result ids.exit addresses.exit }
 {
-    let mut word = io::buffer();
-    let n = os::arg(index, &mut word);
-    if os::errno() != 0 {
-        return wronged(options, b"an argument is longer than ", b"4096 bytes");
-    }
-    with_word(options, index, &word[..n], ids, addresses)
+    let mut word = streams::word_room();
+    let Some(n) = streams::read_word(rt, index, &mut word) else {
+        return wronged(rt, options, b"an argument is longer than ", b"4096 bytes");
+    };
+    with_word(rt, options, index, &word[..n], ids, addresses)
 }
 
 // The last word wants another behind it.
-pub fn complete(options: Options) -> Options
+pub fn complete(rt: &HostRuntime, options: Options) -> Options
     ensures { (result.page ≡ options.page) × (result.helpers ≡ options.helpers) }
 {
     if options.page_next {
-        return wronged(options, b"the page size is missing behind ", b"--page");
+        return wronged(rt, options, b"the page size is missing behind ", b"--page");
     }
     if options.helper_next {
-        return wronged(options, b"the helper is missing behind ", b"--helper");
+        return wronged(rt, options, b"the helper is missing behind ", b"--helper");
     }
     options
 }
@@ -291,6 +310,7 @@ pub fn unasked(program: Program) -> Options
 // The options of a program, which are its arguments from number `from` on. What they say is the operating system's; the page is one that there
 // is room for, and the helpers stand at the start of `ids` and `addresses`.
 pub fn read_options(
+    rt: &HostRuntime,
     program: Program,
     from: usize,
     ids: &mut [u32],
@@ -298,12 +318,12 @@ pub fn read_options(
 ) -> Options
     ensures { Held result ids.exit addresses.exit }
 {
-    let count = os::arg_count();
+    let count = streams::word_count(rt);
     let mut options = unasked(program);
     let mut i = from;
     while i < count {
-        options = with_argument(options, i, ids, addresses);
+        options = with_argument(rt, options, i, ids, addresses);
         i += 1;
     }
-    complete(options)
+    complete(rt, options)
 }

@@ -17,28 +17,34 @@ pub enum Base {
     Unclear,
 }
 
-fn unclear(program: Program, what: &[u8], word: &[u8]) -> Base
+fn unclear(rt: &HostRuntime, program: Program, what: &[u8], word: &[u8]) -> Base
     ensures { result ≡ Unclear }
 {
     let mut line = [0u8; SENTENCE];
-    complain(&mut line, program, what, word);
+    complain(rt, &mut line, program, what, word);
     Base::Unclear
 }
 
-fn too_long(program: Program, most: usize) -> Base
+fn too_long(rt: &HostRuntime, program: Program, most: usize) -> Base
     ensures { result ≡ Unclear }
 {
     let mut word = [0u8; WORD];
     let end = put_form(&mut word, 0, b"# bytes", &[most as u64]);
-    unclear(program, b"the base address is longer than ", &word[..end])
+    unclear(
+        rt,
+        program,
+        b"the base address is longer than ",
+        &word[..end],
+    )
 }
 
-fn base_in(program: Program, word: &[u8]) -> Base
+fn base_in(rt: &HostRuntime, program: Program, word: &[u8]) -> Base
     ensures { result ≡ base_in (given word) }
 {
     match base_of(word) {
         Number::Is(base) => Base::At(base),
         Number::Not => unclear(
+            rt,
             program,
             b"the base address is not a hexadecimal number below 2^64: ",
             word,
@@ -62,25 +68,24 @@ fn is_help(word: Word) -> bool
     }
 }
 
-fn asked_by(program: Program, word: &[u8]) -> Base
+fn asked_by(rt: &HostRuntime, program: Program, word: &[u8]) -> Base
     ensures { result ≡ asked_by (given word) }
 {
     if is_help(word_of(word)) {
         return Base::Help;
     }
-    base_in(program, word)
+    base_in(rt, program, word)
 }
 
 // What the first argument asks for, which is left at the start of `word`.
-pub fn read_base(program: Program, word: &mut [u8]) -> Base
+pub fn read_base(rt: &HostRuntime, program: Program, word: &mut [u8]) -> Base
     ensures { Asked word.new result }
 {
-    if os::arg_count() < 2 {
-        return unclear(program, b"the base address is missing", b"");
+    if streams::word_count(rt) < 2 {
+        return unclear(rt, program, b"the base address is missing", b"");
     }
-    let n = os::arg(1, word);
-    if os::errno() != 0 {
-        return too_long(program, word.len());
-    }
-    asked_by(program, &word[..n])
+    let Some(n) = streams::read_word(rt, 1, word) else {
+        return too_long(rt, program, word.len());
+    };
+    asked_by(rt, program, &word[..n])
 }

@@ -10,8 +10,8 @@ ghost use Rattle.listing_saving.specs.Lent.{other_answer, SaysSaving, ListsSavin
 
 use jit::{Flags, LONGEST_PAGE, MOST_SLOTS, Mode, Refusal};
 use jit_translate::translate::{Answer, translate};
-use libc::STDOUT_FILENO;
 use listing_lines::write_line;
+use streams::Sink;
 use text::form::put_form;
 use text::text::put_text;
 
@@ -183,18 +183,19 @@ pub fn put_saving(
 }
 
 // It stands where what it stands below does: the totals, or the reason of a refusal.
-fn place_of(own: Answer, reason: i32) -> i32 {
+fn place_of<'a>(own: Answer, output: &'a Sink, reason: &'a Sink) -> &'a Sink {
     match own {
         Answer::Accepted {
             length: _,
             jumps: _,
-        } => STDOUT_FILENO,
+        } => output,
         Answer::Refused(_) => reason,
     }
 }
 
 // The line with its newline at the start of `line`, and written out; nothing where nothing is said.
 pub fn list_saving(
+    rt: &HostRuntime,
     line: &mut [u8],
     prog: &[u8],
     flags: Flags,
@@ -203,7 +204,7 @@ pub fn list_saving(
     addresses: &[u64],
     size: usize,
     own: Answer,
-    reason: i32,
+    reason: &Sink,
 ) -> usize
     requires { size ≤ longest_page + 1 }
     ensures { ListsSaving line prog flags mode ids addresses size own result }
@@ -212,5 +213,6 @@ pub fn list_saving(
     if end == 0 {
         return 0;
     }
-    write_line(place_of(own, reason), line, end)
+    let output = streams::output(rt);
+    write_line(place_of(own, &output, reason), line, end)
 }

@@ -11,21 +11,22 @@ mod table;
 use jit::{EPILOGUE_SIZE, Flags, Mode, Refusal};
 use jit_translate::translate::{Answer, translate};
 use listing_lines::LINE;
+use streams::Sink;
 use table::Totals;
 
 // Refusals below 6 are of no slot.
-fn list_until(prog: &[u8], number: u8, slot: usize) {
+fn list_until(rt: &HostRuntime, prog: &[u8], number: u8, slot: usize) {
     if number < 6 {
         return;
     }
-    listing_lines::list_slots(prog, slot);
+    listing_lines::list_slots(rt, prog, slot);
 }
 
-fn list_refused(prog: &[u8], refusal: Refusal, reason: i32) {
+fn list_refused(rt: &HostRuntime, prog: &[u8], refusal: Refusal, reason: &Sink) {
     let mut line = [0u8; LINE];
     let number = refusals::number_of(refusal);
     let slot = refusals::slot_of(refusal);
-    list_until(prog, number, slot);
+    list_until(rt, prog, number, slot);
     let end = refusals_text::sentence(prog, number, slot, &mut line);
     listing_lines::write_line(reason, &mut line, end);
 }
@@ -38,6 +39,7 @@ fn exit_of(length: usize) -> usize {
 }
 
 fn list_accepted(
+    rt: &HostRuntime,
     prog: &[u8],
     page: &[u8],
     locations: &[u32],
@@ -54,12 +56,13 @@ fn list_accepted(
         page: page.len(),
         exit: exit_of(length),
     };
-    table::list_page(prog, page, locations, targets, kinds, makers, totals);
+    table::list_page(rt, prog, page, locations, targets, kinds, makers, totals);
 }
 
 // The program, translated into what is lent, and the table of it. The answer, and what is left in what is lent, are the translator's; a
-// refusal's sentence goes to the descriptor `reason`.
+// refusal's sentence goes to `reason`.
 pub fn list_filter(
+    rt: &HostRuntime,
     prog: &[u8],
     flags: Flags,
     mode: Mode,
@@ -71,7 +74,7 @@ pub fn list_filter(
     targets: &mut [u32],
     kinds: &mut [u32],
     makers: &mut [u32],
-    reason: i32,
+    reason: &Sink,
 ) -> Answer
     ensures translated { Translated (asked prog flags mode ids addresses page locations fields targets kinds makers) page locations fields targets result }
     ensures named { Named (asked prog flags mode ids addresses page locations fields targets kinds makers) kinds makers }
@@ -80,9 +83,11 @@ pub fn list_filter(
         prog, flags, mode, ids, addresses, page, locations, fields, targets, kinds, makers,
     );
     match answer {
-        Answer::Refused(refusal) => list_refused(prog, refusal, reason),
+        Answer::Refused(refusal) => list_refused(rt, prog, refusal, reason),
         Answer::Accepted { length, jumps } => {
-            list_accepted(prog, page, locations, targets, kinds, makers, length, jumps)
+            list_accepted(
+                rt, prog, page, locations, targets, kinds, makers, length, jumps,
+            )
         }
     }
     answer

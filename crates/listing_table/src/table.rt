@@ -65,32 +65,39 @@ fn put_position(line: &mut [u8], code: &[u8], at: usize, end: usize) -> usize {
     put_padding(line, next, INSTRUCTION)
 }
 
-fn list_known(line: &mut [u8], code: &[u8], at: usize, i: Instruction, end: usize) {
+fn list_known(
+    rt: &HostRuntime,
+    line: &mut [u8],
+    code: &[u8],
+    at: usize,
+    i: Instruction,
+    end: usize,
+) {
     let next = put_position(line, code, at, end);
     let next = put_instruction(line, next, i, end);
-    finish(line, next);
+    finish(rt, line, next);
 }
 
 // The instruction at a place, as the reader reads it; the answer is the place behind it.
-fn list_instruction(line: &mut [u8], code: &[u8], at: usize) -> usize {
+fn list_instruction(rt: &HostRuntime, line: &mut [u8], code: &[u8], at: usize) -> usize {
     match decode(code, at) {
         Read::Got(i, end) => {
-            list_known(line, code, at, i, end);
+            list_known(rt, line, code, at, i, end);
             end
         }
         Read::Bad => {
             let next = put_position(line, code, at, at);
             let next = put_text(line, next, b"(no instruction that is known)");
-            finish(line, next);
+            finish(rt, line, next);
             at
         }
     }
 }
 
-fn list_code(line: &mut [u8], code: &[u8], from: usize, to: usize) {
+fn list_code(rt: &HostRuntime, line: &mut [u8], code: &[u8], from: usize, to: usize) {
     let mut at = from;
     while at < to {
-        let next = list_instruction(line, code, at);
+        let next = list_instruction(rt, line, code, at);
         if next <= at {
             return;
         }
@@ -186,14 +193,15 @@ fn put_slot_line(line: &mut [u8], prog: &[u8], slot: usize, location: usize) -> 
     put_slot(line, next, prog, slot)
 }
 
-fn list_second_half(line: &mut [u8], slot: usize) {
+fn list_second_half(rt: &HostRuntime, line: &mut [u8], slot: usize) {
     let next = put_form(line, 0, b"slot #", &[slot as u64]);
     let next = put_padding(line, next, BYTECODE);
     let next = put_text(line, next, b"(second half of the wide load)");
-    finish(line, next);
+    finish(rt, line, next);
 }
 
 fn list_slot(
+    rt: &HostRuntime,
     line: &mut [u8],
     prog: &[u8],
     code: &[u8],
@@ -206,14 +214,14 @@ fn list_slot(
 ) {
     let from = entry(locations, slot);
     if from == 0 {
-        list_second_half(line, slot);
+        list_second_half(rt, line, slot);
         return;
     }
     let to = end_of(locations, totals, slot);
     let next = put_slot_line(line, prog, slot, from);
     let next = put_jump(line, next, locations, targets, kinds, makers, totals, slot);
-    finish(line, next);
-    list_code(line, code, from, to);
+    finish(rt, line, next);
+    list_code(rt, line, code, from, to);
 }
 
 fn first_location(locations: &[u32], totals: Totals) -> usize {
@@ -231,6 +239,7 @@ fn put_frame_line(line: &mut [u8], name: &[u8], location: usize) -> usize {
 
 // Its jump is no slot's: the maker is the number behind the last.
 fn list_prologue(
+    rt: &HostRuntime,
     line: &mut [u8],
     code: &[u8],
     locations: &[u32],
@@ -243,17 +252,17 @@ fn list_prologue(
     let slots = totals.slots;
     let next = put_frame_line(line, b"prologue", 0);
     let next = put_jump(line, next, locations, targets, kinds, makers, totals, slots);
-    finish(line, next);
-    list_code(line, code, 0, to);
+    finish(rt, line, next);
+    list_code(rt, line, code, 0, to);
 }
 
-fn list_epilogue(line: &mut [u8], code: &[u8], totals: Totals) {
+fn list_epilogue(rt: &HostRuntime, line: &mut [u8], code: &[u8], totals: Totals) {
     let next = put_frame_line(line, b"epilogue", totals.exit);
-    finish(line, next);
-    list_code(line, code, totals.exit, totals.length);
+    finish(rt, line, next);
+    list_code(rt, line, code, totals.exit, totals.length);
 }
 
-fn list_totals(line: &mut [u8], totals: Totals) {
+fn list_totals(rt: &HostRuntime, line: &mut [u8], totals: Totals) {
     let next = put_form(
         line,
         0,
@@ -265,10 +274,11 @@ fn list_totals(line: &mut [u8], totals: Totals) {
             totals.jumps as u64,
         ],
     );
-    finish(line, next);
+    finish(rt, line, next);
 }
 
 fn list_all_slots(
+    rt: &HostRuntime,
     line: &mut [u8],
     prog: &[u8],
     code: &[u8],
@@ -284,7 +294,7 @@ fn list_all_slots(
     let mut slot = 0;
     while slot < slots {
         list_slot(
-            line, prog, code, locations, targets, kinds, makers, totals, slot,
+            rt, line, prog, code, locations, targets, kinds, makers, totals, slot,
         );
         slot += 1;
     }
@@ -293,6 +303,7 @@ fn list_all_slots(
 
 // The whole page of an accepted program; the answer is how many slots are listed.
 pub fn list_page(
+    rt: &HostRuntime,
     prog: &[u8],
     code: &[u8],
     locations: &[u32],
@@ -304,11 +315,13 @@ pub fn list_page(
     ensures { result ≡ totals.slots }
 {
     let mut line = [0u8; LINE];
-    list_prologue(&mut line, code, locations, targets, kinds, makers, totals);
-    let listed = list_all_slots(
-        &mut line, prog, code, locations, targets, kinds, makers, totals,
+    list_prologue(
+        rt, &mut line, code, locations, targets, kinds, makers, totals,
     );
-    list_epilogue(&mut line, code, totals);
-    list_totals(&mut line, totals);
+    let listed = list_all_slots(
+        rt, &mut line, prog, code, locations, targets, kinds, makers, totals,
+    );
+    list_epilogue(rt, &mut line, code, totals);
+    list_totals(rt, &mut line, totals);
     listed
 }

@@ -8,7 +8,6 @@ ghost use Rattle.std.specs.Prelude.{◌≡◌, ◌≤◌, length};
 use cases_bytes::{limits, stream};
 use cases_problems::Problem;
 use cases_run::{marks, run};
-use libc::{STDERR_FILENO, STDIN_FILENO, STDOUT_FILENO};
 
 // The longest case fits several times, and so do short answers ahead of the longest.
 const INPUT: usize = 131072;
@@ -22,25 +21,27 @@ struct Waiting {
     failed: bool,
 }
 
-fn flushed(output: &[u8], at: usize) -> Waiting
+fn flushed(rt: &HostRuntime, output: &[u8], at: usize) -> Waiting
     requires { at ≤ length output.now }
     ensures { result.at ≤ length output.now }
 {
-    if io::write_all(STDOUT_FILENO, &output[..at]) {
-        return Waiting {
+    match streams::write(&streams::output(rt), &output[..at]) {
+        Ok(()) => Waiting {
             at: 0,
             failed: false,
-        };
-    }
-    io::write_all(STDERR_FILENO, b"the answers cannot be written\n");
-    Waiting {
-        at: 0,
-        failed: true,
+        },
+        Err(_) => {
+            streams::tell(rt, b"the answers cannot be written\n");
+            Waiting {
+                at: 0,
+                failed: true,
+            }
+        }
     }
 }
 
 // Answers are written when there might be no room for another, and before a read that may have to wait for whoever reads them.
-fn made_room(output: &[u8], at: usize, is_at_hand: bool) -> Waiting
+fn made_room(rt: &HostRuntime, output: &[u8], at: usize, is_at_hand: bool) -> Waiting
     requires { at ≤ length output.now }
     ensures { result.at ≤ length output.now }
 {
@@ -49,12 +50,12 @@ fn made_room(output: &[u8], at: usize, is_at_hand: bool) -> Waiting
             return Waiting { at, failed: false };
         }
     }
-    flushed(output, at)
+    flushed(rt, output, at)
 }
 
-fn say_why(index: u64, wrong: Problem) {
+fn say_why(rt: &HostRuntime, index: u64, wrong: Problem) {
     if !cases_problems::is_end(wrong) {
-        cases_problems::report(b"case", index, wrong);
+        cases_problems::report(rt, b"case", index, wrong);
     }
 }
 
@@ -79,6 +80,7 @@ fn last() -> Turn
 }
 
 fn answer_next(
+    rt: &HostRuntime,
     index: u64,
     input: &mut [u8],
     start: usize,
@@ -95,13 +97,13 @@ fn answer_next(
     requires { (start ≤ end) × ((end ≤ length input.old) × (at ≤ length output.old)) }
     ensures { (result.start ≤ result.end) × ((result.end ≤ length input.new) × (result.at ≤ length output.new)) }
 {
-    let waiting = made_room(output, at, stream::is_at_hand(input, start, end));
+    let waiting = made_room(rt, output, at, stream::is_at_hand(input, start, end));
     let from = waiting.at;
     if waiting.failed {
         return last();
     }
     let done = run::run_next(
-        STDIN_FILENO,
+        &streams::input(rt),
         input,
         start,
         end,
@@ -115,8 +117,8 @@ fn answer_next(
     );
     let wrong = done.problem;
     if !cases_problems::is_nothing(wrong) {
-        flushed(output, from);
-        say_why(index, wrong);
+        flushed(rt, output, from);
+        say_why(rt, index, wrong);
         return last();
     }
     Turn {
@@ -129,6 +131,7 @@ fn answer_next(
 
 // A proved loop has to end, and nothing says that a stream does: so it counts its cases, to a number that none reaches.
 fn answer_all(
+    rt: &HostRuntime,
     input: &mut [u8],
     output: &mut [u8],
     code: &mut [u8],
@@ -143,7 +146,8 @@ fn answer_all(
     let mut at = 0;
     for index in 0..u64::MAX {
         let turn = answer_next(
-            index, input, start, end, output, at, code, locations, fields, targets, kinds, makers,
+            rt, index, input, start, end, output, at, code, locations, fields, targets, kinds,
+            makers,
         );
         if !turn.goes_on {
             break;
@@ -154,7 +158,7 @@ fn answer_all(
     }
 }
 
-fn main() {
+fn main(rt: HostRuntime) {
     let mut input = [0u8; INPUT];
     let mut output = [0u8; OUTPUT];
     let mut code = [0u8; limits::PAGE];
@@ -172,6 +176,7 @@ fn main() {
         &mut makers,
     );
     answer_all(
+        &rt,
         &mut input,
         &mut output,
         &mut code,

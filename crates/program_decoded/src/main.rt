@@ -11,11 +11,9 @@
 
 ghost use Rattle.std.specs.Prelude.{◌≤◌, ◌<◌, length};
 
-use cases_bytes::stream::Window;
 use cases_bytes::turn::Turn;
 use cases_bytes::{limits, numbers, stream, turn};
 use cases_problems::Problem;
-use libc::{STDERR_FILENO, STDIN_FILENO, STDOUT_FILENO};
 use text::form::put_form;
 use text::text::put_byte;
 use x86_instructions::{Instruction, Read};
@@ -37,31 +35,33 @@ struct Waiting {
     failed: bool,
 }
 
-fn flushed(out: &[u8], at: usize) -> Waiting
+fn flushed(rt: &HostRuntime, out: &[u8], at: usize) -> Waiting
     requires { at ≤ length out.now }
     ensures { result.at ≤ length out.now }
 {
-    if io::write_all(STDOUT_FILENO, &out[..at]) {
-        return Waiting {
+    match streams::write(&streams::output(rt), &out[..at]) {
+        Ok(()) => Waiting {
             at: 0,
             failed: false,
-        };
-    }
-    io::write_all(STDERR_FILENO, b"the instructions cannot be written\n");
-    Waiting {
-        at: 0,
-        failed: true,
+        },
+        Err(_) => {
+            streams::tell(rt, b"the instructions cannot be written\n");
+            Waiting {
+                at: 0,
+                failed: true,
+            }
+        }
     }
 }
 
-fn made_room(out: &[u8], at: usize) -> Waiting
+fn made_room(rt: &HostRuntime, out: &[u8], at: usize) -> Waiting
     requires { at ≤ length out.now }
     ensures { result.at ≤ length out.now }
 {
     if LINE <= out.len() - at {
         return Waiting { at, failed: false };
     }
-    flushed(out, at)
+    flushed(rt, out, at)
 }
 
 fn put_line(out: &mut [u8], at: usize, place: usize, i: Instruction, end: usize) -> usize
@@ -88,11 +88,11 @@ struct Step {
     place: usize,
 }
 
-fn put_next(out: &mut [u8], at: usize, code: &[u8], place: usize) -> Step
+fn put_next(rt: &HostRuntime, out: &mut [u8], at: usize, code: &[u8], place: usize) -> Step
     requires { (at ≤ length out.old) × (place < length code.now) }
     ensures { (result.at ≤ length out.new) × ((place < result.place) × (result.place ≤ length code.now)) }
 {
-    let room = made_room(out, at);
+    let room = made_room(rt, out, at);
     let from = room.at;
     let failed = room.failed;
     match decode(code, place) {
@@ -116,23 +116,23 @@ fn put_header(out: &mut [u8], index: u64) -> usize
 }
 
 // Whether all of it could be written.
-fn print_page(index: u64, code: &[u8], out: &mut [u8]) -> bool {
+fn print_page(rt: &HostRuntime, index: u64, code: &[u8], out: &mut [u8]) -> bool {
     let mut at = put_header(out, index);
     let mut place = 0;
     while place < code.len() {
-        let step = put_next(out, at, code, place);
+        let step = put_next(rt, out, at, code, place);
         at = step.at;
         place = step.place;
         if step.failed {
             return false;
         }
     }
-    let done = flushed(out, at);
+    let done = flushed(rt, out, at);
     !done.failed
 }
 
 // Whether the stream is to be read on.
-fn print_answer(index: u64, answer: &[u8], out: &mut [u8]) -> bool {
+fn print_answer(rt: &HostRuntime, index: u64, answer: &[u8], out: &mut [u8]) -> bool {
     let start = 13;
     if answer.len() < start {
         return true;
@@ -142,42 +142,45 @@ fn print_answer(index: u64, answer: &[u8], out: &mut [u8]) -> bool {
     }
     let length = numbers::count_at(answer, 1);
     if answer.len() - start < length {
-        cases_problems::report(b"answer", index, Problem::Unfilled);
+        cases_problems::report(rt, b"answer", index, Problem::Unfilled);
         return false;
     }
     let end = start + length;
-    print_page(index, &answer[start..end], out)
+    print_page(rt, index, &answer[start..end], out)
 }
 
-fn print_next(index: u64, input: &mut [u8], start: usize, end: usize, out: &mut [u8]) -> Turn
+fn print_next(
+    rt: &HostRuntime,
+    index: u64,
+    input: &mut [u8],
+    start: usize,
+    end: usize,
+    out: &mut [u8],
+) -> Turn
     requires { (start ≤ end) × (end ≤ length input.old) }
     ensures { (result.start ≤ result.end) × (result.end ≤ length input.new) }
 {
-    let window = Window {
-        start,
-        end,
-        failed: false,
-    };
-    let next = stream::next_record(STDIN_FILENO, input, window, limits::ANSWER);
+    let window = stream::window_of(start, end);
+    let next = stream::next_record(&streams::input(rt), input, window, limits::ANSWER);
     let wrong = next.problem;
     let at = next.at;
     let behind = at + next.length;
     if !cases_problems::is_nothing(wrong) {
-        return turn::last(b"answer", index, wrong);
+        return turn::last(rt, b"answer", index, wrong);
     }
     Turn {
-        goes_on: print_answer(index, &input[at..behind], out),
+        goes_on: print_answer(rt, index, &input[at..behind], out),
         start: behind,
         end: next.end,
     }
 }
 
 // A proved loop has to end, and nothing says that a stream does: so it counts its answers, to a number that none reaches.
-fn print_all(input: &mut [u8], out: &mut [u8]) {
+fn print_all(rt: &HostRuntime, input: &mut [u8], out: &mut [u8]) {
     let mut start = 0;
     let mut end = 0;
     for index in 0..u64::MAX {
-        let turn = print_next(index, input, start, end, out);
+        let turn = print_next(rt, index, input, start, end, out);
         if !turn.goes_on {
             break;
         }
@@ -186,8 +189,8 @@ fn print_all(input: &mut [u8], out: &mut [u8]) {
     }
 }
 
-fn main() {
+fn main(rt: HostRuntime) {
     let mut input = [0u8; INPUT];
     let mut out = [0u8; OUTPUT];
-    print_all(&mut input, &mut out);
+    print_all(&rt, &mut input, &mut out);
 }

@@ -7,7 +7,6 @@ ghost use Rattle.std.specs.Prelude.{◌+◌, ◌≤◌};
 ghost use Rattle.jit.specs.Limits.{longest_page};
 
 use jit::{MOST_HELPERS, MOST_SLOTS};
-use libc::{STDERR_FILENO, STDOUT_FILENO};
 use listing_options::filter::{INPUT, read_filter};
 use listing_options::help::{HELP, explain_options};
 use listing_options::options::{LARGEST, Options, Program, flags_of, read_options};
@@ -17,25 +16,22 @@ use listing_table::list_filter;
 // An entry for each slot that the input can hold, and one.
 const TABLE: usize = MOST_SLOTS + 1;
 
-fn explain() {
-    io::write_all(
-        STDOUT_FILENO,
+fn explain(rt: &HostRuntime) {
+    streams::show(
+        rt,
         b"listing [OPTIONS] [FILE]: what becomes of the bytecode in FILE, or on standard input, on standard output.\n",
     );
-    io::write_all(
-        STDOUT_FILENO,
+    streams::show(
+        rt,
         b"A refused filter shows its slots up to the refusal; the reason goes to standard error.\n",
     );
     let mut options = [0u8; HELP];
-    explain_options(&mut options, Program::Listing);
-    io::write_all(
-        STDOUT_FILENO,
-        b"Numbers are decimal, or hexadecimal behind 0x.\n",
-    );
+    explain_options(rt, &mut options, Program::Listing);
+    streams::show(rt, b"Numbers are decimal, or hexadecimal behind 0x.\n");
 }
 
 // Of the page the first bytes are lent, as many as the options say.
-fn list_lent(program: &[u8], options: Options, ids: &[u32], addresses: &[u64])
+fn list_lent(rt: &HostRuntime, program: &[u8], options: Options, ids: &[u32], addresses: &[u64])
     requires { options.page ≤ longest_page + 1 }
 {
     let flags = flags_of(options);
@@ -47,7 +43,9 @@ fn list_lent(program: &[u8], options: Options, ids: &[u32], addresses: &[u64])
     let mut targets = [0u32; TABLE];
     let mut kinds = [0u32; TABLE];
     let mut makers = [0u32; TABLE];
+    let reason = streams::errors(rt);
     let answer = list_filter(
+        rt,
         program,
         flags,
         mode,
@@ -59,45 +57,37 @@ fn list_lent(program: &[u8], options: Options, ids: &[u32], addresses: &[u64])
         &mut targets,
         &mut kinds,
         &mut makers,
-        STDERR_FILENO,
+        &reason,
     );
     let mut line = [0u8; listing_saving::LINE];
     list_saving(
-        &mut line,
-        program,
-        flags,
-        mode,
-        ids,
-        addresses,
-        size,
-        answer,
-        STDERR_FILENO,
+        rt, &mut line, program, flags, mode, ids, addresses, size, answer, &reason,
     );
 }
 
-fn list(options: Options, ids: &[u32], addresses: &[u64])
+fn list(rt: &HostRuntime, options: Options, ids: &[u32], addresses: &[u64])
     requires { options.page ≤ longest_page + 1 }
 {
     let mut input = [0u8; INPUT];
-    let filter = read_filter(options.file, &mut input);
+    let filter = read_filter(rt, options.file, &mut input);
     if filter.failed {
         return;
     }
     let length = filter.length;
-    list_lent(&input[..length], options, ids, addresses);
+    list_lent(rt, &input[..length], options, ids, addresses);
 }
 
-fn main() {
+fn main(rt: HostRuntime) {
     let mut ids = [0u32; MOST_HELPERS];
     let mut addresses = [0u64; MOST_HELPERS];
-    let options = read_options(Program::Listing, 1, &mut ids, &mut addresses);
+    let options = read_options(&rt, Program::Listing, 1, &mut ids, &mut addresses);
     if options.wrong {
         return;
     }
     if options.help {
-        explain();
+        explain(&rt);
         return;
     }
     let n = options.helpers;
-    list(options, &ids[..n], &addresses[..n]);
+    list(&rt, options, &ids[..n], &addresses[..n]);
 }

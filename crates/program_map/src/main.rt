@@ -11,7 +11,6 @@ use cases_bytes::answer::put_refused_line;
 use jit::{MOST_HELPERS, MOST_SLOTS};
 use jit_mapping::mapped::translate_mapped;
 use jit_mapping::{Answer, LONGEST_LINE, Refusal, number_of, slot_of};
-use libc::{STDERR_FILENO, STDOUT_FILENO};
 use listing_options::filter::{INPUT, read_filter};
 use listing_options::help::{HELP, explain_options};
 use listing_options::options::{LARGEST, Options, Program, flags_of, read_options};
@@ -24,46 +23,51 @@ const TEXT: usize = LONGEST_LINE * (MOST_SLOTS + 2);
 // A refusal's line fits.
 const LINE: usize = 48;
 
-fn explain() {
-    io::write_all(
-        STDOUT_FILENO,
+fn explain(rt: &HostRuntime) {
+    streams::show(
+        rt,
         b"map BASE [OPTIONS] [FILE]: perf's map of the page for the bytecode in FILE, or on standard input, on standard output.\n",
     );
-    io::write_all(
-        STDOUT_FILENO,
+    streams::show(
+        rt,
         b"BASE is the page's address, in hexadecimal with or without 0x. A refusal goes to standard error, as: refused NUMBER SLOT.\n",
     );
     let mut options = [0u8; HELP];
-    explain_options(&mut options, Program::Map);
-    io::write_all(
-        STDOUT_FILENO,
+    explain_options(rt, &mut options, Program::Map);
+    streams::show(
+        rt,
         b"N, ID and ADDRESS are decimal, or hexadecimal behind 0x.\n",
     );
 }
 
-fn report(refusal: Refusal) {
+fn report(rt: &HostRuntime, refusal: Refusal) {
     let mut line = [0u8; LINE];
     let number = number_of(refusal);
     let slot = slot_of(refusal);
     let end = put_refused_line(&mut line, number, slot);
-    io::write_all(STDERR_FILENO, &line[..end]);
+    streams::tell(rt, &line[..end]);
 }
 
-fn write_map(text: &[u8], length: usize) {
+fn write_map(rt: &HostRuntime, text: &[u8], length: usize) {
     if text.len() < length {
-        io::write_all(
-            STDERR_FILENO,
-            b"the translator answers a length beyond the text\n",
-        );
+        streams::tell(rt, b"the translator answers a length beyond the text\n");
         return;
     }
-    if !io::write_all(STDOUT_FILENO, &text[..length]) {
-        os::fail(b"standard output");
+    match streams::write(&streams::output(rt), &text[..length]) {
+        Ok(()) => (),
+        Err(reason) => streams::fail(rt, b"standard output", reason),
     }
 }
 
 // Of the page the first bytes are lent, as many as the options say.
-fn map_lent(base: u64, program: &[u8], options: Options, ids: &[u32], addresses: &[u64])
+fn map_lent(
+    rt: &HostRuntime,
+    base: u64,
+    program: &[u8],
+    options: Options,
+    ids: &[u32],
+    addresses: &[u64],
+)
     requires { options.page ≤ longest_page + 1 }
 {
     let size = options.page;
@@ -89,48 +93,48 @@ fn map_lent(base: u64, program: &[u8], options: Options, ids: &[u32], addresses:
         base,
         &mut text,
     ) {
-        Answer::Refused(refusal) => report(refusal),
+        Answer::Refused(refusal) => report(rt, refusal),
         Answer::Accepted {
             length: _,
             jumps: _,
             text: end,
-        } => write_map(&text, end),
+        } => write_map(rt, &text, end),
     }
 }
 
-fn map_filter(base: u64, options: Options, ids: &[u32], addresses: &[u64])
+fn map_filter(rt: &HostRuntime, base: u64, options: Options, ids: &[u32], addresses: &[u64])
     requires { options.page ≤ longest_page + 1 }
 {
     let mut input = [0u8; INPUT];
-    let filter = read_filter(options.file, &mut input);
+    let filter = read_filter(rt, options.file, &mut input);
     if filter.failed {
         return;
     }
     let length = filter.length;
-    map_lent(base, &input[..length], options, ids, addresses);
+    map_lent(rt, base, &input[..length], options, ids, addresses);
 }
 
 // The options stand behind the base address.
-fn map_at(base: u64) {
+fn map_at(rt: &HostRuntime, base: u64) {
     let mut ids = [0u32; MOST_HELPERS];
     let mut addresses = [0u64; MOST_HELPERS];
-    let options = read_options(Program::Map, 2, &mut ids, &mut addresses);
+    let options = read_options(rt, Program::Map, 2, &mut ids, &mut addresses);
     if options.wrong {
         return;
     }
     if options.help {
-        explain();
+        explain(rt);
         return;
     }
     let n = options.helpers;
-    map_filter(base, options, &ids[..n], &addresses[..n]);
+    map_filter(rt, base, options, &ids[..n], &addresses[..n]);
 }
 
-fn main() {
-    let mut word = io::buffer();
-    match read_base(Program::Map, &mut word) {
-        Base::At(base) => map_at(base),
-        Base::Help => explain(),
+fn main(rt: HostRuntime) {
+    let mut word = streams::word_room();
+    match read_base(&rt, Program::Map, &mut word) {
+        Base::At(base) => map_at(&rt, base),
+        Base::Help => explain(&rt),
         Base::Unclear => (),
     }
 }

@@ -10,14 +10,12 @@ ghost use Rattle.std.specs.Prelude.{◌≤◌, length};
 use cases_bytes::answer::put_refused_line;
 use cases_bytes::limits::least;
 use cases_bytes::parts::Case;
-use cases_bytes::stream::Window;
 use cases_bytes::turn::Turn;
 use cases_bytes::{limits, parts, stream, turn};
 use cases_problems::Problem;
 use jit::MOST_SLOTS;
 use jit_mapping::mapped::translate_mapped;
 use jit_mapping::{Answer, LONGEST_LINE, Refusal, number_of, slot_of};
-use libc::{STDIN_FILENO, STDOUT_FILENO};
 use listing_arguments::Number;
 use listing_options::options::{Program, SENTENCE, complain};
 use listing_options::place::{Base, read_base};
@@ -39,55 +37,53 @@ struct Asked {
     room: usize,
 }
 
-fn explain() {
-    io::write_all(
-        STDOUT_FILENO,
+fn explain(rt: &HostRuntime) {
+    streams::show(
+        rt,
         b"maps BASE [ROOM] <CASES: of each case the map of its page at BASE, or its refusal. ROOM bytes are lent for the text.\n",
     );
-    io::write_all(
-        STDOUT_FILENO,
+    streams::show(
+        rt,
         b"BASE is hexadecimal, with or without 0x; ROOM is decimal, or hexadecimal behind 0x, and enough for every map unless said.\n",
     );
 }
 
-fn show_number(index: u64) {
+fn show_number(rt: &HostRuntime, index: u64) {
     let mut line = [0u8; LINE];
     let end = put_form(&mut line, 0, b"case #\n", &[index]);
-    io::write_all(STDOUT_FILENO, &line[..end]);
+    streams::show(rt, &line[..end]);
 }
 
-fn show_refusal(refusal: Refusal) {
+fn show_refusal(rt: &HostRuntime, refusal: Refusal) {
     let mut line = [0u8; LINE];
     let number = number_of(refusal);
     let slot = slot_of(refusal);
     let end = put_refused_line(&mut line, number, slot);
-    io::write_all(STDOUT_FILENO, &line[..end]);
+    streams::show(rt, &line[..end]);
 }
 
-fn show_text(text: &[u8], length: usize) {
+fn show_text(rt: &HostRuntime, text: &[u8], length: usize) {
     if text.len() < length {
-        io::write_all(
-            STDOUT_FILENO,
-            b"the translator answers a length beyond the text\n",
-        );
+        streams::show(rt, b"the translator answers a length beyond the text\n");
         return;
     }
-    io::write_all(STDOUT_FILENO, &text[..length]);
+    streams::show(rt, &text[..length]);
 }
 
-fn show_answer(answer: Answer, text: &[u8]) {
+fn show_answer(rt: &HostRuntime, answer: Answer, text: &[u8]) {
     match answer {
-        Answer::Refused(refusal) => show_refusal(refusal),
+        Answer::Refused(refusal) => show_refusal(rt, refusal),
         Answer::Accepted {
             length: _,
             jumps: _,
             text: end,
-        } => show_text(text, end),
+        } => show_text(rt, text, end),
     }
 }
 
 // Of a longer page or table than there is the whole is lent, which the translator cannot tell.
 fn show_map(
+    rt: &HostRuntime,
     base: u64,
     program: &[u8],
     case: Case,
@@ -122,11 +118,18 @@ fn show_map(
         base,
         text,
     );
-    show_answer(answer, text);
+    show_answer(rt, answer, text);
 }
 
 // Of more room for the text than the longest map takes that much is lent.
-fn show_case(asked: Asked, body: &[u8], case: Case, ids: &[u32], addresses: &[u64])
+fn show_case(
+    rt: &HostRuntime,
+    asked: Asked,
+    body: &[u8],
+    case: Case,
+    ids: &[u32],
+    addresses: &[u64],
+)
     requires { (case.ids ≤ length ids.now) × ((case.addresses ≤ length addresses.now) × (case.program ≤ length body.now)) }
 {
     let program = case.program;
@@ -135,6 +138,7 @@ fn show_case(asked: Asked, body: &[u8], case: Case, ids: &[u32], addresses: &[u6
     let mut text = [0u8; TEXT];
     let room = least(asked.room, TEXT);
     show_map(
+        rt,
         asked.base,
         &body[program..],
         case,
@@ -144,37 +148,40 @@ fn show_case(asked: Asked, body: &[u8], case: Case, ids: &[u32], addresses: &[u6
     );
 }
 
-fn show_body(asked: Asked, index: u64, body: &[u8]) -> Problem {
+fn show_body(rt: &HostRuntime, asked: Asked, index: u64, body: &[u8]) -> Problem {
     let mut ids = [0u32; limits::HELPERS];
     let mut addresses = [0u64; limits::HELPERS];
     let case = parts::take_apart(body, &mut ids, &mut addresses);
     let malformed = case.problem;
     if cases_problems::is_nothing(malformed) {
-        show_number(index);
-        show_case(asked, body, case, &ids, &addresses);
+        show_number(rt, index);
+        show_case(rt, asked, body, case, &ids, &addresses);
     }
     malformed
 }
 
-fn show_next(asked: Asked, index: u64, input: &mut [u8], start: usize, end: usize) -> Turn
+fn show_next(
+    rt: &HostRuntime,
+    asked: Asked,
+    index: u64,
+    input: &mut [u8],
+    start: usize,
+    end: usize,
+) -> Turn
     requires { (start ≤ end) × (end ≤ length input.old) }
     ensures { (result.start ≤ result.end) × (result.end ≤ length input.new) }
 {
-    let window = Window {
-        start,
-        end,
-        failed: false,
-    };
-    let next = stream::next_record(STDIN_FILENO, input, window, limits::CASE);
+    let window = stream::window_of(start, end);
+    let next = stream::next_record(&streams::input(rt), input, window, limits::CASE);
     let unread = next.problem;
     let at = next.at;
     let behind = at + next.length;
     if !cases_problems::is_nothing(unread) {
-        return turn::last(b"case", index, unread);
+        return turn::last(rt, b"case", index, unread);
     }
-    let malformed = show_body(asked, index, &input[at..behind]);
+    let malformed = show_body(rt, asked, index, &input[at..behind]);
     if !cases_problems::is_nothing(malformed) {
-        return turn::last(b"case", index, malformed);
+        return turn::last(rt, b"case", index, malformed);
     }
     Turn {
         goes_on: true,
@@ -184,11 +191,11 @@ fn show_next(asked: Asked, index: u64, input: &mut [u8], start: usize, end: usiz
 }
 
 // A proved loop has to end, and nothing says that a stream does: so it counts its cases, to a number that none reaches.
-fn show_all(asked: Asked, input: &mut [u8]) {
+fn show_all(rt: &HostRuntime, asked: Asked, input: &mut [u8]) {
     let mut start = 0;
     let mut end = 0;
     for index in 0..u64::MAX {
-        let turn = show_next(asked, index, input, start, end);
+        let turn = show_next(rt, asked, index, input, start, end);
         if !turn.goes_on {
             break;
         }
@@ -197,13 +204,14 @@ fn show_all(asked: Asked, input: &mut [u8]) {
     }
 }
 
-fn room_in(word: &[u8]) -> Number {
+fn room_in(rt: &HostRuntime, word: &[u8]) -> Number {
     let room = listing_arguments::number_of(word);
     match room {
         Number::Is(_) => (),
         Number::Not => {
             let mut line = [0u8; SENTENCE];
             complain(
+                rt,
                 &mut line,
                 Program::Maps,
                 b"the room for the text is not a number: ",
@@ -215,17 +223,17 @@ fn room_in(word: &[u8]) -> Number {
 }
 
 // The second argument, or enough for every map.
-fn read_room() -> Number {
-    if os::arg_count() < 3 {
+fn read_room(rt: &HostRuntime) -> Number {
+    if streams::word_count(rt) < 3 {
         return Number::Is(TEXT as u64);
     }
-    let mut word = io::buffer();
-    let n = os::arg(2, &mut word);
-    room_in(&word[..n])
+    let mut word = streams::word_room();
+    let n = streams::word_or_empty(rt, 2, &mut word);
+    room_in(rt, &word[..n])
 }
 
-fn show_at(base: u64) {
-    let Number::Is(room) = read_room() else {
+fn show_at(rt: &HostRuntime, base: u64) {
+    let Number::Is(room) = read_room(rt) else {
         return;
     };
     let asked = Asked {
@@ -233,14 +241,14 @@ fn show_at(base: u64) {
         room: room as usize,
     };
     let mut input = [0u8; INPUT];
-    show_all(asked, &mut input);
+    show_all(rt, asked, &mut input);
 }
 
-fn main() {
-    let mut word = io::buffer();
-    match read_base(Program::Maps, &mut word) {
-        Base::At(base) => show_at(base),
-        Base::Help => explain(),
+fn main(rt: HostRuntime) {
+    let mut word = streams::word_room();
+    match read_base(&rt, Program::Maps, &mut word) {
+        Base::At(base) => show_at(&rt, base),
+        Base::Help => explain(&rt),
         Base::Unclear => (),
     }
 }

@@ -1,38 +1,37 @@
 // A capture, read and run window by window: however long it is, it takes the memory of one.
 ghost use Rattle.std.specs.Prelude.{◌≡◌, ◌≤◌, length};
 
-use crate::files::{Kept, NONE, fail_reading, open_kept};
+use crate::files::{Kept, fail_reading, open_kept};
 use crate::said::{clear_progress, refuse, report, show_progress};
 use crate::space;
 use crate::space::WINDOW;
 use cases_bytes::stream;
-use cases_bytes::stream::Window;
-use libc::STDERR_FILENO;
 use pcap::{HEADER, Header, Order, Record, header_of, record_of};
 use replay::{Refusal, Totals};
 use replay_capture::Answer;
 use replay_capture::window::replay_window;
+use streams::{Sink, Source};
 
 // A capture that is open, and what is asked for of it.
-#[derive(Clone, Copy)]
-pub struct Source {
-    pub fd: i32,
+#[derive(Drop)]
+pub struct Capture {
+    pub source: Source,
     pub page: usize,
     // The terminal that progress is shown on.
-    pub shown: i32,
+    pub shown: Option<Sink>,
     // Which argument is the name of the file for the kept packets; 0 where they are not written.
     pub write: usize,
 }
 
 // What stays the same from window to window.
-#[derive(Clone, Copy)]
+#[derive(Drop)]
 struct Reading {
-    fd: i32,
+    source: Source,
     page: usize,
     order: Order,
-    shown: i32,
+    shown: Option<Sink>,
     // The file for the kept packets.
-    out: i32,
+    out: Option<Sink>,
 }
 
 #[derive(Clone, Copy)]
@@ -103,37 +102,33 @@ fn is_too_long(record: Record) -> bool {
 }
 
 // The first bytes of `kept`, where a file is open for them; whether they are written.
-fn write_kept(out: i32, kept: &[u8], length: usize) -> bool {
-    if out < 0 {
+fn write_kept(rt: &HostRuntime, out: &Option<Sink>, kept: &[u8], length: usize) -> bool {
+    let Some(file) = out else {
         return true;
-    }
+    };
     if kept.len() < length {
-        io::write_all(
-            STDERR_FILENO,
-            b"a replay answers more kept packets than there are\n",
-        );
+        streams::tell(rt, b"a replay answers more kept packets than there are\n");
         return false;
     }
-    if !io::write_all(out, &kept[..length]) {
-        os::fail(b"the kept packets");
-        return false;
+    match streams::write(file, &kept[..length]) {
+        Ok(()) => true,
+        Err(reason) => {
+            streams::fail(rt, b"the kept packets", reason);
+            false
+        }
     }
-    true
 }
 
 // Behind a window of which `used` bytes were whole records. A window that begins with none is the end of a capture that is cut short, or has
 // a record that is too long, and so has one whose rest begins with that: it is said before more is read.
-fn behind_window(order: Order, window: &[u8], used: usize, totals: Totals) -> Part
+fn behind_window(rt: &HostRuntime, order: Order, window: &[u8], used: usize, totals: Totals) -> Part
     ensures { result.left ≤ length window.now }
 {
     if used == 0 {
         return last_part(How::Cut, totals);
     }
     if window.len() < used {
-        io::write_all(
-            STDERR_FILENO,
-            b"a replay answers a length beyond its window\n",
-        );
+        streams::tell(rt, b"a replay answers a length beyond its window\n");
         return last_part(How::Stopped, totals);
     }
     if is_too_long(record_of(order, &window[used..])) {
@@ -148,7 +143,8 @@ fn behind_window(order: Order, window: &[u8], used: usize, totals: Totals) -> Pa
 
 // The same where `records` bytes of kept packets are to be written first.
 fn behind_kept(
-    reading: Reading,
+    rt: &HostRuntime,
+    reading: &Reading,
     window: &[u8],
     used: usize,
     totals: Totals,
@@ -157,16 +153,17 @@ fn behind_kept(
 ) -> Part
     ensures { result.left ≤ length window.now }
 {
-    if !write_kept(reading.out, kept, records) {
+    if !write_kept(rt, &reading.out, kept, records) {
         return last_part(How::Stopped, totals);
     }
     let order = reading.order;
-    behind_window(order, window, used, totals)
+    behind_window(rt, order, window, used, totals)
 }
 
 // A window of which something is there.
 fn replay_part(
-    reading: Reading,
+    rt: &HostRuntime,
+    reading: &Reading,
     program: &[u8],
     ids: &[u32],
     addresses: &[u64],
@@ -192,20 +189,21 @@ fn replay_part(
         kept,
     ) {
         Answer::Refused(refusal) => {
-            refuse(program, refusal);
+            refuse(rt, program, refusal);
             last_part(How::Stopped, totals)
         }
         Answer::Ran {
             used,
             kept: records,
             totals: more,
-        } => behind_kept(reading, window, used, more, kept, records),
+        } => behind_kept(rt, reading, window, used, more, kept, records),
     }
 }
 
 // What was left of the window before stands at the head of this one.
 fn replay_next(
-    reading: Reading,
+    rt: &HostRuntime,
+    reading: &Reading,
     name: &[u8],
     program: &[u8],
     ids: &[u32],
@@ -219,22 +217,19 @@ fn replay_next(
     ensures { (result.start ≤ result.end) × (result.end ≤ length buffer.new) }
 {
     let totals = turn.totals;
-    let left = Window {
-        start: turn.start,
-        end: turn.end,
-        failed: false,
-    };
-    let window = stream::widened(reading.fd, buffer, left, WINDOW);
+    let left = stream::window_of(turn.start, turn.end);
+    let window = stream::widened(&reading.source, buffer, left, WINDOW);
     let start = window.start;
     let end = window.end;
     if window.failed {
-        fail_reading(name);
+        fail_reading(rt, name, window.reason);
         return last(How::Stopped, totals);
     }
     if start == end {
         return last(How::Whole, totals);
     }
     let part = replay_part(
+        rt,
         reading,
         program,
         ids,
@@ -256,7 +251,8 @@ fn replay_next(
 
 // A proved loop has to end, and nothing says that a capture does: so it counts its windows, to a number that none reaches.
 fn replay_all(
-    reading: Reading,
+    rt: &HostRuntime,
+    reading: &Reading,
     name: &[u8],
     program: &[u8],
     ids: &[u32],
@@ -271,46 +267,47 @@ fn replay_all(
     let mut turn = begun;
     for windows in 0..u64::MAX {
         turn = replay_next(
-            reading, name, program, ids, addresses, turn, buffer, counts, kept,
+            rt, reading, name, program, ids, addresses, turn, buffer, counts, kept,
         );
         let how = turn.how;
         let totals = turn.totals;
         if !goes_on(how) {
-            clear_progress(reading.shown, windows);
+            clear_progress(&reading.shown, windows);
             return turn;
         }
-        show_progress(reading.shown, windows, totals.packets);
+        show_progress(&reading.shown, windows, totals.packets);
     }
     turn
 }
 
-fn tell(turn: Turn, program: &[u8], counts: &[u64]) {
+fn tell(rt: &HostRuntime, turn: Turn, program: &[u8], counts: &[u64]) {
     let how = turn.how;
     let totals = turn.totals;
     match how {
         How::GoesOn => (),
-        How::Whole => report(program, totals, counts),
+        How::Whole => report(rt, program, totals, counts),
         How::Cut => {
-            report(program, totals, counts);
-            refuse(program, Refusal::BadRecord);
+            report(rt, program, totals, counts);
+            refuse(rt, program, Refusal::BadRecord);
         }
         How::Stopped => (),
     }
 }
 
 // What is kept is given room where it is written.
-fn room_for(out: i32) -> usize
+fn room_for(out: &Option<Sink>) -> usize
     ensures { result ≤ 1048576 }
 {
-    if out < 0 {
-        return 0;
+    match out {
+        None => 0,
+        Some(_) => WINDOW,
     }
-    WINDOW
 }
 
 // The capture's header, whose `end` bytes are read with what is behind it, is the kept packets' too.
 fn replay_records(
-    reading: Reading,
+    rt: &HostRuntime,
+    reading: &Reading,
     name: &[u8],
     program: &[u8],
     ids: &[u32],
@@ -320,7 +317,7 @@ fn replay_records(
 )
     requires { (24 ≤ end) × (end ≤ length buffer.old) }
 {
-    if !write_kept(reading.out, buffer, HEADER) {
+    if !write_kept(rt, &reading.out, buffer, HEADER) {
         return;
     }
     let begun = Turn {
@@ -338,8 +335,9 @@ fn replay_records(
     };
     let mut counts = space::for_counts();
     let mut kept = space::for_window();
-    let room = room_for(reading.out);
+    let room = room_for(&reading.out);
     let turn = replay_all(
+        rt,
         reading,
         name,
         program,
@@ -350,11 +348,12 @@ fn replay_records(
         &mut counts,
         &mut kept[..room],
     );
-    tell(turn, program, &counts);
+    tell(rt, turn, program, &counts);
 }
 
 fn replay_ordered(
-    source: Source,
+    rt: &HostRuntime,
+    capture: Capture,
     order: Order,
     name: &[u8],
     program: &[u8],
@@ -365,44 +364,48 @@ fn replay_ordered(
 )
     requires { (24 ≤ end) × (end ≤ length buffer.old) }
 {
-    let mut reading = Reading {
-        fd: source.fd,
-        page: source.page,
-        order,
-        shown: source.shown,
-        out: NONE,
-    };
-    match open_kept(source.write, name) {
+    let Capture {
+        source,
+        page,
+        shown,
+        write,
+    } = capture;
+    let out = match open_kept(rt, write, name) {
         Kept::Failed => return,
-        Kept::Nowhere => (),
-        Kept::To(fd) => reading.out = fd,
-    }
-    replay_records(reading, name, program, ids, addresses, buffer, end);
+        Kept::Nowhere => None,
+        Kept::To(file) => Some(file),
+    };
+    let reading = Reading {
+        source,
+        page,
+        order,
+        shown,
+        out,
+    };
+    replay_records(rt, &reading, name, program, ids, addresses, buffer, end);
 }
 
 // The capture with that name: of its header first.
 pub(crate) fn replay_source(
-    source: Source,
+    rt: &HostRuntime,
+    capture: Capture,
     name: &[u8],
     program: &[u8],
     ids: &[u32],
     addresses: &[u64],
 ) {
-    let fd = source.fd;
-    if fd < 0 {
-        return;
-    }
     let mut buffer = space::for_window();
-    let read = stream::fill(fd, &mut buffer, 0, HEADER);
+    let read = stream::fill(&capture.source, &mut buffer, 0, HEADER);
     let end = read.end;
     if read.failed {
-        fail_reading(name);
+        fail_reading(rt, name, read.reason);
         return;
     }
     match header_of(&buffer[..end]) {
-        Header::NotPcap => refuse(program, Refusal::NotPcap),
+        Header::NotPcap => refuse(rt, program, Refusal::NotPcap),
         Header::Pcap(order) => replay_ordered(
-            source,
+            rt,
+            capture,
             order,
             name,
             program,

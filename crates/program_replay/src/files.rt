@@ -1,75 +1,73 @@
 // What is open: the capture, the file for the kept packets, and the terminal that shows how far a replay is.
-use libc::{STDERR_FILENO, STDIN_FILENO};
 use listing_arguments::is;
 use listing_options::options::{Program, SENTENCE, complain};
-
-// No file.
-pub const NONE: i32 = -1;
+use streams::{Reason, Sink, Source};
 
 // Where ./run, which listens to standard error, hands on its own.
-const HANDED_ON: i32 = 4;
+const HANDED_ON: &str = "/dev/fd/4";
 
 // The terminal that progress is shown on: standard error, where it is one.
-pub(crate) fn terminal() -> i32 {
-    if libc::isatty(STDERR_FILENO) == 1 {
-        return STDERR_FILENO;
+pub(crate) fn terminal(rt: &HostRuntime) -> Option<Sink> {
+    match streams::terminal_of_errors(rt) {
+        Some(own) => Some(own),
+        None => streams::terminal_named(rt, HANDED_ON),
     }
-    if libc::isatty(HANDED_ON) == 1 {
-        return HANDED_ON;
-    }
-    NONE
 }
 
 // The system's reason why a capture is not read.
-pub(crate) fn fail_reading(name: &[u8]) {
+pub(crate) fn fail_reading(rt: &HostRuntime, name: &[u8], reason: Reason) {
     if is(name, b"-") {
-        os::fail(b"standard input");
+        streams::fail(rt, b"standard input", reason);
         return;
     }
-    os::fail(name);
+    streams::fail(rt, name, reason);
 }
 
-// A descriptor, or a negative number where standard error says why.
-pub(crate) fn open_capture(name: &[u8]) -> i32 {
+// The capture; nothing where standard error says why.
+pub(crate) fn open_capture(rt: &HostRuntime, name: &[u8]) -> Option<Source> {
     if is(name, b"-") {
-        return STDIN_FILENO;
+        return Some(streams::input(rt));
     }
-    let fd = os::open_read(name);
-    if fd < 0 {
-        os::fail(name);
+    match streams::open(rt, name) {
+        Ok(file) => Some(file),
+        Err(reason) => {
+            streams::fail(rt, name, reason);
+            None
+        }
     }
-    fd
 }
 
 // What becomes of the kept packets.
-#[derive(Clone, Copy)]
+#[derive(Drop)]
 pub enum Kept {
     // They are not asked for.
     Nowhere,
-    To(i32),
+    To(Sink),
     // The file cannot be written, which standard error says.
     Failed,
 }
 
-fn open_written(name: &[u8]) -> Kept {
-    let fd = os::open_overwrite(name);
-    if fd < 0 {
-        os::fail(name);
-        return Kept::Failed;
+fn open_written(rt: &HostRuntime, name: &[u8]) -> Kept {
+    match streams::create(rt, name) {
+        Ok(file) => Kept::To(file),
+        Err(reason) => {
+            streams::fail(rt, name, reason);
+            Kept::Failed
+        }
     }
-    Kept::To(fd)
 }
 
 // The file whose name is the argument `write`. Written over the capture, it would end the reading of it.
-pub(crate) fn open_kept(write: usize, capture: &[u8]) -> Kept {
+pub(crate) fn open_kept(rt: &HostRuntime, write: usize, capture: &[u8]) -> Kept {
     if write == 0 {
         return Kept::Nowhere;
     }
-    let mut name = io::buffer();
-    let n = os::arg(write, &mut name);
+    let mut name = streams::word_room();
+    let n = streams::word_or_empty(rt, write, &mut name);
     if is(&name[..n], capture) {
         let mut line = [0u8; SENTENCE];
         complain(
+            rt,
             &mut line,
             Program::Replay,
             b"--write would write over the capture: ",
@@ -77,5 +75,5 @@ pub(crate) fn open_kept(write: usize, capture: &[u8]) -> Kept {
         );
         return Kept::Failed;
     }
-    open_written(&name[..n])
+    open_written(rt, &name[..n])
 }

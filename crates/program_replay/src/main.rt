@@ -8,10 +8,9 @@ mod files;
 mod said;
 mod space;
 
-use capture::{Source, replay_source};
+use capture::{Capture, replay_source};
 use files::{open_capture, terminal};
 use jit::MOST_HELPERS;
-use libc::STDOUT_FILENO;
 use listing_options::filter::read_filter;
 use replay_capture::Decided;
 use replay_capture::decide::decide_replay;
@@ -19,85 +18,97 @@ use replay_options::help::put_options;
 use replay_options::options::{Asked, read_asked};
 use said::refuse;
 use space::{TABLE, for_filter};
+use streams::Sink;
 
 // The lines that explain the options are no longer.
 const HELP: usize = 1024;
 
-fn explain() {
-    io::write_all(
-        STDOUT_FILENO,
+fn explain(rt: &HostRuntime) {
+    streams::show(
+        rt,
         b"replay [OPTIONS] FILTER CAPTURE: what the bytecode in FILTER would have kept of CAPTURE, a libpcap file, or - for standard input.\n",
     );
-    io::write_all(
-        STDOUT_FILENO,
+    streams::show(
+        rt,
         b"Each packet is run on a model of RFC 9669, as standard mode has it; behind the totals stands how often each slot ran.\n",
     );
-    io::write_all(
-        STDOUT_FILENO,
+    streams::show(
+        rt,
         b"A refusal goes to standard error, as: refused NUMBER SLOT, and its reason. A filter that calls helpers is not replayed.\n",
     );
     let mut options = [0u8; HELP];
     let end = put_options(&mut options);
-    io::write_all(STDOUT_FILENO, &options[..end]);
-    io::write_all(
-        STDOUT_FILENO,
+    streams::show(rt, &options[..end]);
+    streams::show(
+        rt,
         b"N, ID and ADDRESS are decimal, or hexadecimal behind 0x.\n",
     );
 }
 
-// The capture is opened once the filter is known to be run. Its name is read before that, since a failure's reason lasts until the next call.
+// The capture is opened once the filter is known to be run.
 fn replay_opened(
+    rt: &HostRuntime,
     asked: Asked,
     program: &[u8],
     ids: &[u32],
     addresses: &[u64],
     page: usize,
-    shown: i32,
+    shown: Option<Sink>,
 ) {
-    let mut name = io::buffer();
-    let n = os::arg(asked.capture, &mut name);
-    let source = Source {
-        fd: open_capture(&name[..n]),
+    let mut name = streams::word_room();
+    let n = streams::word_or_empty(rt, asked.capture, &mut name);
+    let Some(source) = open_capture(rt, &name[..n]) else {
+        return;
+    };
+    let capture = Capture {
+        source,
         page,
         shown,
         write: asked.write,
     };
-    replay_source(source, &name[..n], program, ids, addresses);
+    replay_source(rt, capture, &name[..n], program, ids, addresses);
 }
 
-fn replay_filter(asked: Asked, program: &[u8], ids: &[u32], addresses: &[u64], shown: i32) {
+fn replay_filter(
+    rt: &HostRuntime,
+    asked: Asked,
+    program: &[u8],
+    ids: &[u32],
+    addresses: &[u64],
+    shown: Option<Sink>,
+) {
     let options = asked.options;
     let page = options.page;
     match decide_replay(program, ids, addresses, page, TABLE) {
-        Decided::Not(refusal) => refuse(program, refusal),
-        Decided::Runs => replay_opened(asked, program, ids, addresses, page, shown),
+        Decided::Not(refusal) => refuse(rt, program, refusal),
+        Decided::Runs => replay_opened(rt, asked, program, ids, addresses, page, shown),
     }
 }
 
-fn replay_asked(asked: Asked, ids: &[u32], addresses: &[u64]) {
+fn replay_asked(rt: &HostRuntime, asked: Asked, ids: &[u32], addresses: &[u64]) {
     // Nothing is open yet: a terminal that is found was given.
-    let shown = terminal();
+    let shown = terminal(rt);
     let mut input = for_filter();
-    let filter = read_filter(asked.filter, &mut input);
+    let filter = read_filter(rt, asked.filter, &mut input);
     if filter.failed {
         return;
     }
     let length = filter.length;
-    replay_filter(asked, &input[..length], ids, addresses, shown);
+    replay_filter(rt, asked, &input[..length], ids, addresses, shown);
 }
 
-fn main() {
+fn main(rt: HostRuntime) {
     let mut ids = [0u32; MOST_HELPERS];
     let mut addresses = [0u64; MOST_HELPERS];
-    let asked = read_asked(&mut ids, &mut addresses);
+    let asked = read_asked(&rt, &mut ids, &mut addresses);
     let options = asked.options;
     if options.wrong {
         return;
     }
     if options.help {
-        explain();
+        explain(&rt);
         return;
     }
     let n = options.helpers;
-    replay_asked(asked, &ids[..n], &addresses[..n]);
+    replay_asked(&rt, asked, &ids[..n], &addresses[..n]);
 }

@@ -10,13 +10,11 @@ ghost use Rattle.jit.specs.Limits.{longest_page};
 use cases_bytes::answer::put_refusal_line;
 use cases_bytes::limits::least;
 use cases_bytes::parts::Case;
-use cases_bytes::stream::Window;
 use cases_bytes::turn::Turn;
 use cases_bytes::{limits, parts, stream, turn};
 use cases_problems::Problem;
 use jit::Refusal;
 use jit_translate::translate::Answer;
-use libc::{STDIN_FILENO, STDOUT_FILENO};
 use listing_saving::list_saving;
 use listing_table::list_filter;
 use text::form::put_form;
@@ -27,21 +25,21 @@ const INPUT: usize = 4 + limits::CASE;
 // No line of its own is longer.
 const LINE: usize = 64;
 
-fn show_number(index: u64) {
+fn show_number(rt: &HostRuntime, index: u64) {
     let mut line = [0u8; LINE];
     let end = put_form(&mut line, 0, b"case #\n", &[index]);
-    io::write_all(STDOUT_FILENO, &line[..end]);
+    streams::show(rt, &line[..end]);
 }
 
-fn show_refusal(refusal: Refusal) {
+fn show_refusal(rt: &HostRuntime, refusal: Refusal) {
     let mut line = [0u8; LINE];
     let end = put_refusal_line(&mut line, refusal);
-    io::write_all(STDOUT_FILENO, &line[..end]);
+    streams::show(rt, &line[..end]);
 }
 
-fn show_answer(answer: Answer) {
+fn show_answer(rt: &HostRuntime, answer: Answer) {
     match answer {
-        Answer::Refused(refusal) => show_refusal(refusal),
+        Answer::Refused(refusal) => show_refusal(rt, refusal),
         Answer::Accepted {
             length: _,
             jumps: _,
@@ -50,7 +48,14 @@ fn show_answer(answer: Answer) {
 }
 
 // Of a longer table than there is the whole is lent, which the translator cannot tell.
-fn list_lent(program: &[u8], case: Case, ids: &[u32], addresses: &[u64], size: usize) -> Answer
+fn list_lent(
+    rt: &HostRuntime,
+    program: &[u8],
+    case: Case,
+    ids: &[u32],
+    addresses: &[u64],
+    size: usize,
+) -> Answer
     requires { size ≤ longest_page + 1 }
 {
     let mut page = [0u8; limits::PAGE];
@@ -65,6 +70,7 @@ fn list_lent(program: &[u8], case: Case, ids: &[u32], addresses: &[u64], size: u
     let k = least(case.kinds, limits::TABLE);
     let m = least(case.makers, limits::TABLE);
     list_filter(
+        rt,
         program,
         parts::flags_of(case),
         parts::mode_of(case),
@@ -76,16 +82,24 @@ fn list_lent(program: &[u8], case: Case, ids: &[u32], addresses: &[u64], size: u
         &mut targets[..t],
         &mut kinds[..k],
         &mut makers[..m],
-        STDOUT_FILENO,
+        &streams::output(rt),
     )
 }
 
-fn show_filter(program: &[u8], case: Case, ids: &[u32], addresses: &[u64], size: usize)
+fn show_filter(
+    rt: &HostRuntime,
+    program: &[u8],
+    case: Case,
+    ids: &[u32],
+    addresses: &[u64],
+    size: usize,
+)
     requires { size ≤ longest_page + 1 }
 {
-    let answer = list_lent(program, case, ids, addresses, size);
+    let answer = list_lent(rt, program, case, ids, addresses, size);
     let mut line = [0u8; listing_saving::LINE];
     list_saving(
+        rt,
         &mut line,
         program,
         parts::flags_of(case),
@@ -94,53 +108,49 @@ fn show_filter(program: &[u8], case: Case, ids: &[u32], addresses: &[u64], size:
         addresses,
         size,
         answer,
-        STDOUT_FILENO,
+        &streams::output(rt),
     );
-    show_answer(answer);
+    show_answer(rt, answer);
 }
 
 // Of a longer page than there is the whole is lent, as of a table.
-fn show_case(body: &[u8], case: Case, ids: &[u32], addresses: &[u64])
+fn show_case(rt: &HostRuntime, body: &[u8], case: Case, ids: &[u32], addresses: &[u64])
     requires { (case.ids ≤ length ids.now) × ((case.addresses ≤ length addresses.now) × (case.program ≤ length body.now)) }
 {
     let program = case.program;
     let i = case.ids;
     let a = case.addresses;
     let size = least(case.code, limits::PAGE);
-    show_filter(&body[program..], case, &ids[..i], &addresses[..a], size);
+    show_filter(rt, &body[program..], case, &ids[..i], &addresses[..a], size);
 }
 
-fn show_body(index: u64, body: &[u8]) -> Problem {
+fn show_body(rt: &HostRuntime, index: u64, body: &[u8]) -> Problem {
     let mut ids = [0u32; limits::HELPERS];
     let mut addresses = [0u64; limits::HELPERS];
     let case = parts::take_apart(body, &mut ids, &mut addresses);
     let malformed = case.problem;
     if cases_problems::is_nothing(malformed) {
-        show_number(index);
-        show_case(body, case, &ids, &addresses);
+        show_number(rt, index);
+        show_case(rt, body, case, &ids, &addresses);
     }
     malformed
 }
 
-fn show_next(index: u64, input: &mut [u8], start: usize, end: usize) -> Turn
+fn show_next(rt: &HostRuntime, index: u64, input: &mut [u8], start: usize, end: usize) -> Turn
     requires { (start ≤ end) × (end ≤ length input.old) }
     ensures { (result.start ≤ result.end) × (result.end ≤ length input.new) }
 {
-    let window = Window {
-        start,
-        end,
-        failed: false,
-    };
-    let next = stream::next_record(STDIN_FILENO, input, window, limits::CASE);
+    let window = stream::window_of(start, end);
+    let next = stream::next_record(&streams::input(rt), input, window, limits::CASE);
     let unread = next.problem;
     let at = next.at;
     let behind = at + next.length;
     if !cases_problems::is_nothing(unread) {
-        return turn::last(b"case", index, unread);
+        return turn::last(rt, b"case", index, unread);
     }
-    let malformed = show_body(index, &input[at..behind]);
+    let malformed = show_body(rt, index, &input[at..behind]);
     if !cases_problems::is_nothing(malformed) {
-        return turn::last(b"case", index, malformed);
+        return turn::last(rt, b"case", index, malformed);
     }
     Turn {
         goes_on: true,
@@ -150,11 +160,11 @@ fn show_next(index: u64, input: &mut [u8], start: usize, end: usize) -> Turn
 }
 
 // A proved loop has to end, and nothing says that a stream does: so it counts its cases, to a number that none reaches.
-fn show_all(input: &mut [u8]) {
+fn show_all(rt: &HostRuntime, input: &mut [u8]) {
     let mut start = 0;
     let mut end = 0;
     for index in 0..u64::MAX {
-        let turn = show_next(index, input, start, end);
+        let turn = show_next(rt, index, input, start, end);
         if !turn.goes_on {
             break;
         }
@@ -163,7 +173,7 @@ fn show_all(input: &mut [u8]) {
     }
 }
 
-fn main() {
+fn main(rt: HostRuntime) {
     let mut input = [0u8; INPUT];
-    show_all(&mut input);
+    show_all(&rt, &mut input);
 }

@@ -8,7 +8,6 @@ use cases_bytes::answer::put_refusal_line;
 use cases_bytes::stream;
 use jit::{Flags, LONGEST_PROGRAM, MOST_SLOTS, Mode, Refusal, SHORTEST_PAGE};
 use jit_translate::translate::{Answer, translate};
-use libc::{STDERR_FILENO, STDIN_FILENO, STDOUT_FILENO};
 use listing_arguments::{Word, mode_with, word_of};
 
 // One byte more than a program may have: a longer one is refused for it, however long it is.
@@ -24,40 +23,37 @@ enum Asked {
 }
 
 // Of a word that is not known standard error says so.
-fn unclear(word: &[u8]) -> Asked {
-    io::write_all(STDERR_FILENO, b"translate: unknown argument ");
-    io::write_all(STDERR_FILENO, word);
-    io::write_all(
-        STDERR_FILENO,
-        b" (there are only --standard and --compact)\n",
-    );
+fn unclear(rt: &HostRuntime, word: &[u8]) -> Asked {
+    streams::tell(rt, b"translate: unknown argument ");
+    streams::tell(rt, word);
+    streams::tell(rt, b" (there are only --standard and --compact)\n");
     Asked::Unclear
 }
 
 // The mode with what a word asks for; two words are known.
-fn with_word(mode: Mode, word: &[u8]) -> Asked {
+fn with_word(rt: &HostRuntime, mode: Mode, word: &[u8]) -> Asked {
     match word_of(word) {
         Word::Standard => Asked::For(mode_with(mode, Word::Standard)),
         Word::Compact => Asked::For(mode_with(mode, Word::Compact)),
-        _ => unclear(word),
+        _ => unclear(rt, word),
     }
 }
 
-fn with_argument(mode: Mode, index: usize) -> Asked {
-    let mut word = io::buffer();
-    let n = os::arg(index, &mut word);
-    with_word(mode, &word[..n])
+fn with_argument(rt: &HostRuntime, mode: Mode, index: usize) -> Asked {
+    let mut word = streams::word_room();
+    let n = streams::word_or_empty(rt, index, &mut word);
+    with_word(rt, mode, &word[..n])
 }
 
-fn read_arguments() -> Asked {
-    let count = os::arg_count();
+fn read_arguments(rt: &HostRuntime) -> Asked {
+    let count = streams::word_count(rt);
     let mut mode = Mode {
         standard: false,
         compact: false,
     };
     let mut i = 1;
     while i < count {
-        let Asked::For(more) = with_argument(mode, i) else {
+        let Asked::For(more) = with_argument(rt, mode, i) else {
             return Asked::Unclear;
         };
         mode = more;
@@ -66,26 +62,24 @@ fn read_arguments() -> Asked {
     Asked::For(mode)
 }
 
-fn report(refusal: Refusal) {
+fn report(rt: &HostRuntime, refusal: Refusal) {
     let mut line = [0u8; 48];
     let end = put_refusal_line(&mut line, refusal);
-    io::write_all(STDERR_FILENO, &line[..end]);
+    streams::tell(rt, &line[..end]);
 }
 
-fn write_code(page: &[u8], length: usize) {
+fn write_code(rt: &HostRuntime, page: &[u8], length: usize) {
     if page.len() < length {
-        io::write_all(
-            STDERR_FILENO,
-            b"the translator answers a length beyond the page\n",
-        );
+        streams::tell(rt, b"the translator answers a length beyond the page\n");
         return;
     }
-    if !io::write_all(STDOUT_FILENO, &page[..length]) {
-        os::fail(b"standard output");
+    match streams::write(&streams::output(rt), &page[..length]) {
+        Ok(()) => (),
+        Err(reason) => streams::fail(rt, b"standard output", reason),
     }
 }
 
-fn answer(program: &[u8], mode: Mode) {
+fn answer(rt: &HostRuntime, program: &[u8], mode: Mode) {
     let mut page = [0u8; SHORTEST_PAGE];
     let mut locations = [0u32; TABLE];
     let mut fields = [0u32; TABLE];
@@ -111,25 +105,25 @@ fn answer(program: &[u8], mode: Mode) {
         &mut kinds,
         &mut makers,
     ) {
-        Answer::Refused(refusal) => report(refusal),
-        Answer::Accepted { length, jumps: _ } => write_code(&page, length),
+        Answer::Refused(refusal) => report(rt, refusal),
+        Answer::Accepted { length, jumps: _ } => write_code(rt, &page, length),
     }
 }
 
-fn translate_input(mode: Mode) {
+fn translate_input(rt: &HostRuntime, mode: Mode) {
     let mut input = [0u8; INPUT];
-    let read = stream::fill(STDIN_FILENO, &mut input, 0, INPUT);
+    let read = stream::fill(&streams::input(rt), &mut input, 0, INPUT);
     if read.failed {
-        os::fail(b"standard input");
+        streams::fail(rt, b"standard input", read.reason);
         return;
     }
     let length = read.end;
-    answer(&input[..length], mode);
+    answer(rt, &input[..length], mode);
 }
 
-fn main() {
-    match read_arguments() {
-        Asked::For(mode) => translate_input(mode),
+fn main(rt: HostRuntime) {
+    match read_arguments(&rt) {
+        Asked::For(mode) => translate_input(&rt, mode),
         Asked::Unclear => (),
     }
 }

@@ -28,21 +28,22 @@ fn with_options(asked: Asked, options: Options) -> Asked
     changed
 }
 
-fn wronged(asked: Asked, what: &[u8], word: &[u8]) -> Asked
+fn wronged(rt: &HostRuntime, asked: Asked, what: &[u8], word: &[u8]) -> Asked
     ensures { (result.options.page ≡ asked.options.page) × (result.options.helpers ≡ asked.options.helpers) }
 {
     let before = asked.options;
-    with_options(asked, options::wronged(before, what, word))
+    with_options(asked, options::wronged(rt, before, what, word))
 }
 
 // The first name is the filter's, the second the capture's.
-fn with_name(asked: Asked, index: usize, word: &[u8]) -> Asked
+fn with_name(rt: &HostRuntime, asked: Asked, index: usize, word: &[u8]) -> Asked
     ensures { (result.options.page ≡ asked.options.page) × (result.options.helpers ≡ asked.options.helpers) }
 {
     let mut changed = asked;
     if asked.filter == 0 {
         if is(word, b"-") {
             return wronged(
+                rt,
                 asked,
                 b"the filter is a file: only the capture can be ",
                 word,
@@ -55,7 +56,7 @@ fn with_name(asked: Asked, index: usize, word: &[u8]) -> Asked
         changed.capture = index;
         return changed;
     }
-    wronged(asked, b"a third name: ", word)
+    wronged(rt, asked, b"a third name: ", word)
 }
 
 fn with_write(asked: Asked, index: usize) -> Asked
@@ -69,6 +70,7 @@ fn with_write(asked: Asked, index: usize) -> Asked
 
 // A word that other programs have too.
 fn with_common(
+    rt: &HostRuntime,
     asked: Asked,
     index: usize,
     word: &[u8],
@@ -81,11 +83,12 @@ fn with_common(
     let before = asked.options;
     with_options(
         asked,
-        options::with_word(before, index, word, ids, addresses),
+        options::with_word(rt, before, index, word, ids, addresses),
     )
 }
 
 fn with_own(
+    rt: &HostRuntime,
     asked: Asked,
     index: usize,
     word: &[u8],
@@ -101,17 +104,19 @@ fn with_own(
             changed.write_next = true;
             changed
         }
-        Word::Name => with_name(asked, index, word),
+        Word::Name => with_name(rt, asked, index, word),
         Word::Foreign => wronged(
+            rt,
             asked,
             b"a replay is in standard mode with both flags off, and has no option ",
             word,
         ),
-        Word::Common => with_common(asked, index, word, ids, addresses),
+        Word::Common => with_common(rt, asked, index, word, ids, addresses),
     }
 }
 
 fn with_word(
+    rt: &HostRuntime,
     asked: Asked,
     index: usize,
     word: &[u8],
@@ -126,64 +131,69 @@ fn with_word(
     }
     let before = asked.options;
     if before.page_next {
-        return with_common(asked, index, word, ids, addresses);
+        return with_common(rt, asked, index, word, ids, addresses);
     }
     if before.helper_next {
-        return with_common(asked, index, word, ids, addresses);
+        return with_common(rt, asked, index, word, ids, addresses);
     }
-    with_own(asked, index, word, ids, addresses)
+    with_own(rt, asked, index, word, ids, addresses)
 }
 
 // The argument `index`, which is read here; one that is too long to read is no option, no number and no name.
-fn with_argument(asked: Asked, index: usize, ids: &mut [u32], addresses: &mut [u64]) -> Asked
+fn with_argument(
+    rt: &HostRuntime,
+    asked: Asked,
+    index: usize,
+    ids: &mut [u32],
+    addresses: &mut [u64],
+) -> Asked
     requires { Holds asked ids addresses }
     ensures { Holds result ids.exit addresses.exit }
 {
-    let mut word = io::buffer();
-    let n = os::arg(index, &mut word);
-    if os::errno() != 0 {
-        return wronged(asked, b"an argument is longer than ", b"4096 bytes");
-    }
-    with_word(asked, index, &word[..n], ids, addresses)
+    let mut word = streams::word_room();
+    let Some(n) = streams::read_word(rt, index, &mut word) else {
+        return wronged(rt, asked, b"an argument is longer than ", b"4096 bytes");
+    };
+    with_word(rt, asked, index, &word[..n], ids, addresses)
 }
 
 // Both names have to be there.
-fn named(asked: Asked) -> Asked
+fn named(rt: &HostRuntime, asked: Asked) -> Asked
     ensures { (result.options.page ≡ asked.options.page) × (result.options.helpers ≡ asked.options.helpers) }
 {
     if asked.filter == 0 {
-        return wronged(asked, b"the filter and the capture are missing", b"");
+        return wronged(rt, asked, b"the filter and the capture are missing", b"");
     }
     if asked.capture == 0 {
-        return wronged(asked, b"the capture is missing behind the filter", b"");
+        return wronged(rt, asked, b"the capture is missing behind the filter", b"");
     }
     asked
 }
 
 // The last word wants another behind it, or a name is missing. Where something else is wrong, or the help is asked for, no name is missed.
-fn complete(asked: Asked) -> Asked
+fn complete(rt: &HostRuntime, asked: Asked) -> Asked
     ensures { (result.options.page ≡ asked.options.page) × (result.options.helpers ≡ asked.options.helpers) }
 {
     if asked.write_next {
-        return wronged(asked, b"the file is missing behind ", b"--write");
+        return wronged(rt, asked, b"the file is missing behind ", b"--write");
     }
     let before = asked.options;
-    let completed = options::complete(before);
+    let completed = options::complete(rt, before);
     if completed.wrong {
         return with_options(asked, completed);
     }
     if completed.help {
         return asked;
     }
-    named(asked)
+    named(rt, asked)
 }
 
 // What the arguments ask for. What they say is the operating system's; the page is one that there is room for, and the helpers stand at the
 // start of `ids` and `addresses`.
-pub fn read_asked(ids: &mut [u32], addresses: &mut [u64]) -> Asked
+pub fn read_asked(rt: &HostRuntime, ids: &mut [u32], addresses: &mut [u64]) -> Asked
     ensures { Holds result ids.exit addresses.exit }
 {
-    let count = os::arg_count();
+    let count = streams::word_count(rt);
     let mut asked = Asked {
         options: unasked(Program::Replay),
         filter: 0,
@@ -193,8 +203,8 @@ pub fn read_asked(ids: &mut [u32], addresses: &mut [u64]) -> Asked
     };
     let mut i = 1;
     while i < count {
-        asked = with_argument(asked, i, ids, addresses);
+        asked = with_argument(rt, asked, i, ids, addresses);
         i += 1;
     }
-    complete(asked)
+    complete(rt, asked)
 }
