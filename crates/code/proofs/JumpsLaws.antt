@@ -1,7 +1,7 @@
 -- The laws of specs/Jumps.antt: a kind and a maker beside each target, of code behind code; and where the field of a maker's jump lies.
 use mathlib.Core.Path.{◌≡◌, refl, ap, sym, ◌∙◌}
 use mathlib.Core.List.{List, [], ◌∷◌, ◌++◌, append_assoc, append-nil}
-use Prim.Native.Nat.{ℕ, zero, suc, ◌+◌, ◌-◌, ◌≤◌, ◌<◌}
+use Prim.Native.Nat.{ℕ, zero, suc, ◌+◌, ◌≤◌, ◌<◌}
 use native.Mathlib.Omega.{arith}
 use native.Mathlib.Nat.{zero-add, add-zero, add_assoc}
 use lib.ListN.{length, get_or, length-append}
@@ -10,7 +10,7 @@ use Rattle.code.specs.Instr.{Instr, op, jump, call_reg, ret, Dest, near, to, Isa
 use Rattle.code.specs.Code.{target, targets_of, len, size, fields_of}
 use Rattle.code.specs.Page.{Code, Block, Page, slots_wide, slots_in, flat, field_table}
 use Rattle.code.specs.Jumps.{each, made_from, maker_table, kind, kinds_of}
-use Rattle.code.specs.Landing.{SlotAt, Within, of_slot, of_prologue}
+use Rattle.code.specs.Landing.{Within, of_slot, of_prologue}
 use Rattle.code.proofs.CodeLaws.{size-append, fields-append, targets-append, length_fields}
 
 pub length-each : (x : ℕ) (ts : List ℕ) → length (each x ts) ≡ length ts

@@ -1,5 +1,5 @@
 -- The laws of specs/Kinds.antt.
-use Rattle.std.proofs.Common.{◌≡◌, ℕ, ◌+◌, ◌<◌, Bool, true, false, ltb, List, map, length, get_or, refl, ◌∙◌, arith, ltb-false, ltb-true}
+use Rattle.std.proofs.Common.{◌≡◌, ℕ, ◌+◌, ◌<◌, Bool, true, false, ltb, map, length, get_or, refl, ◌∙◌, arith, ltb-false, ltb-true}
 use mathlib.Core.List.{sum}
 use lib.ListN.{get_or-eq_default}
 use Rattle.ebpf.specs.declared.kind.Lookup.{Lookup}

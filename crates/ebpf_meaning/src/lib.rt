@@ -2,4 +2,3 @@
 // (proofs/) only.
 
 #![tactic(auto)]
-

@@ -1,9 +1,7 @@
 -- Of the two further tables demand 2's part of the outcome sees one thing, whether they are long enough: the code, the locations, the fields,
 -- the targets and every refusal are the same whatever their lengths are, once each has an entry for each slot, and one.
 use mathlib.Core.Path.{◌≡◌, refl}
-use mathlib.Core.Bool.{false}
 use Prim.Native.Nat.{ℕ, ◌<◌}
-use lib.Dec.{leb}
 use Rattle.base.proofs.Tests.{leb-false}
 use Rattle.jit.specs.Translation.{Inputs, slots_of, sizes_of, translation_of}
 

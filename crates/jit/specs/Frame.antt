@@ -1,5 +1,5 @@
 -- The frame round the slots: the three prologues, 34, 31 and 49 bytes, and the epilogue, 16, of `jit_compile` in the Rust.
-use Rattle.std.specs.Prelude.{[], ◌∷◌, ◌++◌, ◌+◌}
+use Rattle.std.specs.Prelude.{[], ◌∷◌, ◌++◌}
 use Rattle.base.specs.Pick.{pick}
 use Rattle.base.specs.declared.Width.TheVariants.{W64}
 use Rattle.base.specs.declared.Size.TheVariants.{S64}

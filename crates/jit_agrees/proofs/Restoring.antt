@@ -12,7 +12,7 @@ use Rattle.jit_safety.proofs.Facts.{memb}
 use Rattle.base.specs.declared.Width.TheVariants.{W64}
 use Rattle.x86.specs.Registers.{RAX, RCX, RDX, RSP}
 use Rattle.x86.specs.Instr.{pop, alu, op, MOV}
-use Rattle.jit.specs.MulDivMod.{when, from_rax, restored}
+use Rattle.jit.specs.MulDivMod.{when, restored}
 use Rattle.x86_machine.specs.Machine.{Regs, rd, put, Status, result, up, down}
 use Rattle.jit_agrees.specs.Runs.{lowered}
 use Rattle.jit_agrees.proofs.Lists.{Way, falls, jumps, Wp}

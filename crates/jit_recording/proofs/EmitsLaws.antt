@@ -3,7 +3,7 @@ use Rattle.std.proofs.Common.{◌≡◌, ℕ, ◌+◌, ◌-◌, ◌<◌, List, [
 use Rattle.base.proofs.Lists.{empty, sets-append}
 use Rattle.x86.specs.Instr.{Jump, jump}
 use Rattle.x86.specs.Encode.{jump_opcode, jump_kind}
-use Rattle.x86.specs.Code.{to, size, targets_of, kinds_of, each}
+use Rattle.x86.specs.Code.{to, size, targets_of, kinds_of}
 use Rattle.x86.specs.Lowered.{fields_of}
 use Rattle.x86.specs.Fill.{blanks}
 use Rattle.x86.proofs.CodeLaws.{size-append, blanks-append, length-blanks, fields-append, targets-append, length_fields, kinds-append, length-kinds, each_append}

@@ -1,7 +1,7 @@
 -- `Emits`, `Room`, `Recordable` and `Recorded` (Emits.antt) of the parameters by their names (base/specs/Lent.antt): the page, the four jump
 -- tables, the state before and behind.
 use Rattle.std.specs.Prelude.{ℕ}
-use Rattle.base.specs.Lent.{MutSlice, Lent, MutLent}
+use Rattle.base.specs.Lent.{MutSlice, MutLent}
 use Rattle.base.specs.declared.Position.{Position}
 use Rattle.base.specs.declared.Slot.{Slot}
 use Rattle.jit.specs.MulDivMod.{Code}

@@ -12,13 +12,13 @@ use Rattle.x86.proofs.WellFormed.{Wf}
 use Rattle.x86.specs.Encode.{len}
 use Rattle.x86.specs.Code.{Dest, near, to}
 use Rattle.x86.specs.Lowered.{code_of}
-use Rattle.x86_machine.specs.Machine.{Input, State, Frame, Outcome, running, finished, faulted, unbalanced, divided, astray, holds, Effect, calls, effect}
+use Rattle.x86_machine.specs.Machine.{Input, State, Frame, Outcome, running, finished, faulted, unbalanced, divided, astray, holds, Effect, effect}
 use Rattle.x86_machine.specs.Machine.{moved, returned, land, touches, step, after, run}
 use Rattle.code.proofs.Placed.{Want, want, fits, skip, met, passes, passes_at}
 use Rattle.x86.proofs.ReadsLaws.{WfCode, wf-lower, wf-at, fetch-at, fetch-len}
 use Rattle.x86.specs.Lowered.{lower}
 use Rattle.jit_safety.proofs.Facts.{Fact, Known, leaves, needs, no-fault, leaves-known, branch, branch-known, covers, covers-known}
-use Rattle.jit_safety.proofs.Cells.{Cell, cell, cell_len, instrs, extent, Place, size-instrs, split-instrs, StandsIn, Leads, leads}
+use Rattle.jit_safety.proofs.Cells.{Cell, cell_len, instrs, extent, Place, size-instrs, split-instrs, StandsIn, Leads, leads}
 
 -- what is known covers what the instruction's note says
 abbrev pub asks : List Fact → Cell → Bool

@@ -18,7 +18,7 @@ use Rattle.ebpf.specs.declared.kind.Kind.TheVariants.{MulDivMod}
 use Rattle.ebpf.specs.declared.kind.Lookup.TheVariants.{Known}
 use Rattle.x86.specs.Instr.{Instr, op, Jump, jmp, call, jcc, jump}
 use Rattle.x86.specs.Encode.{isa, len}
-use Rattle.x86.specs.Code.{Dest, near, to, field, size, place, target, targets_of}
+use Rattle.x86.specs.Code.{Dest, near, to, field, size, targets_of}
 use Rattle.x86.specs.Lowered.{lowered, code_of, fields_of}
 use Rattle.x86.proofs.CodeLaws.{lawful, length-bytes, len-map, size-append}
 use Rattle.code.proofs.CodeLaws.{lowered-append}

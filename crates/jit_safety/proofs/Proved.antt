@@ -18,7 +18,7 @@ use Rattle.jit.specs.Limits.{anchor}
 use Rattle.jit.specs.Frame.{saves, packet_start, packet_end, argument, enter, prologue, epilogue}
 use Rattle.jit.proofs.FrameLaws.{prologue_size, prologue-size}
 use Rattle.jit.specs.declared.Flags.{Flags}
-use Rattle.jit.specs.Translation.{Inputs, slots_of, Block, done, walk_of, flat, whole, page_of, locations, place_of, Outcome, yes, translation_of}
+use Rattle.jit.specs.Translation.{Inputs, slots_of, Block, done, walk_of, flat, whole, page_of, locations, place_of, yes, translation_of}
 use Rattle.jit.specs.JumpTables.{page_for, kind_table, maker_table}
 use Rattle.jit.specs.Passes.{exit_of}
 use Rattle.jit.proofs.Bounds.{whole-size}

@@ -2,7 +2,7 @@
 -- of a packet. The header begins with a magic number, by whose bytes the order of all numbers of the file is known; one magic is for times in
 -- microseconds, one for nanoseconds. Nothing else of the header counts here, and of a record's header only the captured length, its third
 -- number. What a file says of itself is not trusted: a length counts as far as the bytes are there.
-use Rattle.std.specs.Prelude.{◌≡◌, Bool, ◌||◌, List, [], ◌∷◌, ◌++◌, ℕ, zero, suc, ◌+◌, ◌*◌, ltb, eqb, length, get_or, take, drop}
+use Rattle.std.specs.Prelude.{Bool, ◌||◌, List, [], ◌∷◌, ℕ, zero, suc, ◌+◌, ◌*◌, ltb, eqb, length, get_or, take, drop}
 use Rattle.base.specs.Pick.{pick}
 use Rattle.pcap.specs.declared.Order.{Order}
 use Rattle.pcap.specs.declared.Order.TheVariants.{Little, Big}

@@ -1,6 +1,6 @@
 -- What a run sees of memory: the packet at one address, a stack of 512 bytes at another, and nothing else. An access of RFC 9669 (section 5.1)
 -- lies wholly inside one of them. Numbers stand lowest byte first, as on the processor of the page.
-use Rattle.std.specs.Prelude.{Bool, ◌&&◌, List, ℕ, ◌+◌, ◌-◌, ◌*◌, ◌%◌, ◌^◌, leb, length, take, drop}
+use Rattle.std.specs.Prelude.{Bool, ◌&&◌, List, ℕ, ◌+◌, ◌-◌, ◌%◌, ◌^◌, leb, take, drop}
 use Rattle.std.proofs.lemmas.List.Edits.{sets}
 use Rattle.base.specs.Bytes.{bytes_of, join}
 use Rattle.base.specs.Pick.{pick}

@@ -1,10 +1,8 @@
 -- What is reported of a capture: for every filter, page size, helper lists, table of counts and capture the packets, how the run of each ended
 -- and how often each slot ran; or one refusal. The order: the translator's refusals, then 19, then 17, then 18, which comes with what was
 -- counted before it.
-use Rattle.std.specs.Prelude.{◌≡◌, Bool, true, false, not, ◌&&◌, ◌||◌, List, [], ◌∷◌, ◌++◌, map, ℕ, zero, suc, ◌+◌, ◌%◌, ◌^◌, eqb, length, get_or, set, drop}
+use Rattle.std.specs.Prelude.{Bool, true, false, not, List, [], ◌∷◌, ◌++◌, map, ℕ, zero, suc, ◌+◌, ◌%◌, ◌^◌, eqb, length, get_or, set, drop}
 use Rattle.base.specs.Pick.{pick}
-use Rattle.base.specs.declared.Slot.{Slot}
-use Rattle.ebpf.specs.declared.kind.Kind.{Kind}
 use Rattle.ebpf.specs.declared.kind.Kind.TheVariants.{LdAbs, LdInd, LdDwImm, LdReg, StImm, StReg, Alu, Shift, Neg, MulDivMod, Mov, Le, Be, Ja, Jump, Call, Exit}
 use Rattle.ebpf.specs.declared.kind.Lookup.{Lookup}
 use Rattle.ebpf.specs.declared.kind.Lookup.TheVariants.{Known, Unimplemented, Unknown}
@@ -16,7 +14,7 @@ use Rattle.pcap.specs.declared.Header.TheVariants.{Pcap, NotPcap as NoHeader}
 use Rattle.replay.specs.declared.Ended.{Ended}
 use Rattle.replay.specs.declared.Ended.TheVariants as ended
 use Rattle.replay.specs.declared.Refusal.{Refusal}
-use Rattle.replay.specs.declared.Refusal.TheVariants.{Translation, NotPcap, BadRecord, NotModelled}
+use Rattle.replay.specs.declared.Refusal.TheVariants.{Translation, NotPcap, NotModelled}
 use Rattle.replay.specs.declared.Totals.{Totals}
 use Rattle.replay.specs.Run.{Run, run_of, kind_at}
 

@@ -1,7 +1,7 @@
 -- A packet's run: RFC 9669's step (ebpf_meaning) with memory (Memory), from slot 0 to EXIT or to where the run is stopped. Where off of
 -- arithmetic, moves and swaps or src of a wide load means more in the RFC, the run does as the page does (docs/DIFFERENCES.md, part D): off
 -- counts as 0, and the constant is loaded.
-use Rattle.std.specs.Prelude.{Bool, true, false, ◌&&◌, not, List, [], ◌∷◌, ℕ, zero, suc, ◌+◌, ◌*◌, ◌^◌, ltb, eqb, length, get_or, set, replicate}
+use Rattle.std.specs.Prelude.{Bool, false, ◌&&◌, not, List, [], ◌∷◌, ℕ, zero, suc, ◌+◌, ◌*◌, ◌^◌, ltb, eqb, length, get_or, set, replicate}
 use Rattle.base.specs.Pick.{pick}
 use Rattle.base.specs.declared.Size.{Size}
 use Rattle.base.specs.declared.Width.TheVariants.{W64}

@@ -1,9 +1,8 @@
 -- The laws of specs/Codes.antt: a code by its kind's number is that of its kind; where there is no slot, the code is 0; and entry behind entry.
-use mathlib.Core.Path.{◌≡◌, refl, ◌∙◌, sym, ap}
-use mathlib.Core.Logic.{⊎_elim}
-use mathlib.Core.Bool.{Bool, true, false, ◌&&◌, not}
-use mathlib.Core.List.{List, [], ◌∷◌}
-use Prim.Native.Nat.{ℕ, zero, suc, ◌+◌, ◌*◌, ◌≤◌, ◌<◌}
+use mathlib.Core.Path.{◌≡◌, refl, ◌∙◌, sym}
+use mathlib.Core.Bool.{Bool, true, false, ◌&&◌}
+use mathlib.Core.List.{List}
+use Prim.Native.Nat.{ℕ, ◌+◌, ◌≤◌, ◌<◌}
 use native.Mathlib.Numerals.{add-one}
 use native.Mathlib.Omega.{arith}
 use borrow.Author.Tests.{lt-ltb, le-ltb, lt-leb, le-leb}
@@ -20,9 +19,9 @@ use Rattle.ebpf.specs.declared.kind.Kind.TheVariants.{LdAbs, LdInd, LdDwImm, LdR
 use Rattle.ebpf.specs.declared.kind.Lookup.{Lookup}
 use Rattle.ebpf.specs.declared.kind.Lookup.TheVariants.{Known, Unimplemented, Unknown}
 use Rattle.ebpf.proofs.KindsLaws.{number-at}
-use Rattle.jit.specs.Translation.{slots_of, swap_bits, good_registers}
-use Rattle.replay.specs.Run.{kind_at, kind_in, runnable, is_slot, is_second, opcode_at}
-use Rattle.replay_slots.specs.Codes.{absent_code, code_of, code_at, code_by, Coded, opened}
+use Rattle.jit.specs.Translation.{slots_of, swap_bits}
+use Rattle.replay.specs.Run.{kind_at, kind_in, runnable, is_second, opcode_at}
+use Rattle.replay_slots.specs.Codes.{absent_code, code_of, code_at, code_by, opened}
 
 module _ (more : Bool) (i : Insn) where
   only_if : (k : Kind) (t : Bool) → code_of (Known k) i.opc ≡ i.opc → pick t i.opc absent_code ≡ code_of (pick t (Known k) Unknown) i.opc

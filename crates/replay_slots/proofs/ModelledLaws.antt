@@ -1,25 +1,23 @@
 -- A slot's code says whether it is LD_ABS, LD_IND or CALL; and the first such slot, found slot by slot.
-use mathlib.Core.Path.{◌≡◌, refl, ◌∙◌, sym, ap}
+use mathlib.Core.Path.{◌≡◌, refl, ◌∙◌, ap}
 use mathlib.Core.Bool.{Bool, true, false, ◌&&◌, not}
 use mathlib.Core.List.{List}
-use Prim.Native.Nat.{ℕ, zero, suc, ◌+◌, ◌-◌, ◌*◌, ◌≤◌, ◌<◌}
+use Prim.Native.Nat.{ℕ, suc, ◌+◌, ◌-◌, ◌≤◌, ◌<◌}
 use native.Mathlib.Numerals.{add-one}
 use native.Mathlib.Omega.{arith}
 use borrow.Author.Tests.{eq-eqb, ne_eqb}
-use lib.Dec.{eqb, ltb, leb}
-use lib.ListN.{get_or}
+use lib.Dec.{eqb, ltb}
 use Rattle.base.specs.Pick.{pick}
 use Rattle.ebpf.specs.Insn.{insn_at}
 use Rattle.ebpf.specs.Opcode.{kind_of}
-use Rattle.ebpf.specs.declared.insn.Insn.{Insn}
 use Rattle.ebpf.specs.declared.kind.Kind.{Kind}
 use Rattle.ebpf.specs.declared.kind.Kind.TheVariants.{LdAbs, LdInd, LdDwImm, LdReg, StImm, StReg, Alu, Shift, Neg, MulDivMod, Mov, Le, Be, Ja, Jump, Call, Exit}
 use Rattle.ebpf.specs.declared.kind.Lookup.{Lookup}
 use Rattle.ebpf.specs.declared.kind.Lookup.TheVariants.{Known, Unimplemented, Unknown}
-use Rattle.jit.specs.Translation.{slots_of, at, good_registers, swap_bits}
+use Rattle.jit.specs.Translation.{slots_of, at, good_registers}
 use Rattle.replay.specs.declared.Refusal.TheVariants.{NotModelled}
-use Rattle.replay.specs.Report.{Verdict, runs, refused, not_modelled, first_from}
-use Rattle.replay.specs.Run.{kind_at, kind_in, runnable, is_second, opcode_at}
+use Rattle.replay.specs.Report.{runs, refused, not_modelled, first_from}
+use Rattle.replay.specs.Run.{kind_at, is_second, opcode_at}
 use Rattle.replay_slots.specs.Codes.{not_modelled_code, code_of, code_at}
 
 -- the code 0x80 is no opcode that is known

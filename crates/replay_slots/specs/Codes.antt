@@ -1,11 +1,10 @@
 -- The code of a slot, a byte: its opcode where the slot is run, but for EXIT; and where it is not, a number that says why. That no two are taken
 -- for each other is a law (proofs/CodesLaws.antt).
-use Rattle.std.specs.Prelude.{◌≡◌, Bool, false, List, [], ◌∷◌, ℕ, ◌<◌, eqb, get_or}
+use Rattle.std.specs.Prelude.{◌≡◌, Bool, false, List, [], ◌∷◌, ℕ, ◌<◌, get_or}
 use Rattle.base.specs.Cases.{Arm, ◌⇒◌, cases}
 use Rattle.base.specs.Pick.{pick}
 use Rattle.ebpf.specs.Kinds.{UNKNOWN, UNIMPLEMENTED, LD-DW-IMM, LE, BE, CALL, LD-ABS, LD-IND, EXIT}
 use Rattle.ebpf.specs.declared.insn.Insn.{Insn}
-use Rattle.ebpf.specs.declared.kind.Kind.{Kind}
 use Rattle.ebpf.specs.declared.kind.Kind.TheVariants.{LdAbs, LdInd, LdDwImm, LdReg, StImm, StReg, Alu, Shift, Neg, MulDivMod, Mov, Le, Be, Ja, Jump, Call, Exit}
 use Rattle.ebpf.specs.declared.kind.Lookup.{Lookup}
 use Rattle.ebpf.specs.declared.kind.Lookup.TheVariants.{Known, Unimplemented, Unknown}

@@ -1,5 +1,5 @@
 -- The table of codes, of the parameters by their names (base/specs/Lent.antt).
-use Rattle.std.specs.Prelude.{◌≡◌, ℕ}
+use Rattle.std.specs.Prelude.{ℕ}
 use Rattle.base.specs.Lent.{Slice, Lent, MutLent}
 use Rattle.jit.specs.Translation.{slots_of}
 use Rattle.replay.specs.declared.Refusal.TheVariants.{NotModelled}

@@ -1,6 +1,6 @@
 -- The laws of specs/Forms.antt that the loop over a form needs.
 use mathlib.Core.Path.{◌≡◌}
-use mathlib.Core.List.{List, [], ◌++◌}
+use mathlib.Core.List.{List, ◌++◌}
 use Prim.Native.Nat.{ℕ, suc, ◌+◌, ◌<◌, ◌≤◌}
 use lib.ListN.{length, get_or, drop}
 use lib.Seq.{drop-cons}

@@ -1,7 +1,7 @@
 -- What the emitters' contracts say of their parameters, by their names (base/specs/Lent.antt).
 use Rattle.std.specs.Prelude.{◌≡◌, ℕ, ◌+◌, ◌≤◌, List, length}
 use Rattle.std.proofs.lemmas.List.Edits.{sets}
-use Rattle.base.specs.Lent.{MutSlice, Lent, MutLent}
+use Rattle.base.specs.Lent.{MutSlice, MutLent}
 use Rattle.base.specs.declared.Position.{Position}
 use Rattle.x86.specs.Instr.{Instr}
 use Rattle.x86.specs.Code.{Dest, size}

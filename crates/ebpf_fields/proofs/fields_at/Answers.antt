@@ -1,5 +1,4 @@
 use Rattle.ebpf_fields.specs.Fields.{fields_at}
-use borrow.Author.Rules.{rules}
 use Rattle.ebpf_fields.proofs.fields_at.Goals as goal
 
 pub returns-in-Whole : goal.returns-in-Whole

@@ -1,6 +1,5 @@
 use Rattle.text.proofs.SaysLaws.{same, then}
 use Rattle.ebpf_statements.specs.Statements.{binary}
-use borrow.Author.Rules.{rules}
 use Rattle.ebpf_statements.proofs.put_binary.Goals as goal
 
 pub returns : goal.returns

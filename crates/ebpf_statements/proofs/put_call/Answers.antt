@@ -1,7 +1,6 @@
 use Rattle.text.proofs.SaysLaws.{same}
 use borrow.Author.Tests.{eq-eqb, ne_eqb}
 use Rattle.ebpf_statements.specs.Statements.{call_text}
-use borrow.Author.Rules.{rules}
 use Rattle.ebpf_statements.proofs.put_call.Goals as goal
 
 pub returns-then-src-eq0 : goal.returns-then-src-eq0

@@ -1,6 +1,5 @@
 use Rattle.text.proofs.SaysLaws.{same}
 use Rattle.ebpf_statements.specs.Statements.{abs_text}
-use borrow.Author.Rules.{rules}
 use Rattle.ebpf_statements.proofs.put_ld_abs.Goals as goal
 
 pub returns : goal.returns

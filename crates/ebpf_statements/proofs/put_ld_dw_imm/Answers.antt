@@ -1,5 +1,4 @@
 use Rattle.ebpf_statements.specs.Statements.{wide_text}
-use borrow.Author.Rules.{rules}
 use Rattle.ebpf_statements.proofs.put_ld_dw_imm.Goals as goal
 
 pub returns : goal.returns

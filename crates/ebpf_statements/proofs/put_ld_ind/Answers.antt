@@ -1,6 +1,5 @@
 use Rattle.text.proofs.SaysLaws.{same}
 use Rattle.ebpf_statements.specs.Statements.{ind_text}
-use borrow.Author.Rules.{rules}
 use Rattle.ebpf_statements.proofs.put_ld_ind.Goals as goal
 
 pub returns : goal.returns

@@ -1,6 +1,5 @@
 use Rattle.text.proofs.SaysLaws.{same}
 use Rattle.ebpf_statements.specs.Statements.{load_text}
-use borrow.Author.Rules.{rules}
 use Rattle.ebpf_statements.proofs.put_ld_reg.Goals as goal
 
 pub returns : goal.returns

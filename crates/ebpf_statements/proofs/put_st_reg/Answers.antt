@@ -1,6 +1,5 @@
 use Rattle.text.proofs.SaysLaws.{same}
 use Rattle.ebpf_statements.specs.Statements.{store_reg_text}
-use borrow.Author.Rules.{rules}
 use Rattle.ebpf_statements.proofs.put_st_reg.Goals as goal
 
 pub returns : goal.returns

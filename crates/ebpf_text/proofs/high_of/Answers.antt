@@ -1,6 +1,5 @@
 use Rattle.ebpf_text.specs.Assembler.{high_of}
 use borrow.Author.Tests.{lt-ltb, le-ltb}
-use borrow.Author.Rules.{rules}
 use Rattle.ebpf_text.proofs.high_of.Goals as goal
 
 pub returns-then-slot-prog : goal.returns-then-slot-prog

@@ -1,6 +1,5 @@
 use Rattle.text.proofs.SaysLaws.{same, then}
 use Rattle.ebpf_text.specs.Assembler.{jump_text}
-use borrow.Author.Rules.{rules}
 use Rattle.ebpf_text.proofs.put_jump.Goals as goal
 
 pub returns : goal.returns

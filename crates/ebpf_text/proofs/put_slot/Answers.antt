@@ -1,6 +1,5 @@
 use Rattle.text.proofs.SaysLaws.{same}
 use Rattle.ebpf_text.specs.Assembler.{slot_text}
-use borrow.Author.Rules.{rules}
 use Rattle.ebpf_text.proofs.put_slot.Goals as goal
 
 pub returns : goal.returns

@@ -1,6 +1,5 @@
 use borrow.Author.Tests.{lt-ltb, le-ltb}
 use Rattle.pcap.specs.Capture.{header_of}
-use borrow.Author.Rules.{rules}
 use Rattle.pcap.proofs.header_of.Goals as goal
 
 -- `header_of`: its tests are those of `header_of`, in that order.

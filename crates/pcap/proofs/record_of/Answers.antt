@@ -1,6 +1,5 @@
 use mathlib.Core.Path.{sym}
 use native.Mathlib.Omega.{arith}
-use borrow.Author.Rules.{rules}
 use Rattle.pcap.proofs.CaptureLaws.{is-end, is-torn, is-too-long, is_cut, packet}
 use Rattle.pcap.proofs.record_of.Goals as goal
 

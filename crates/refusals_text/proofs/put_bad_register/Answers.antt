@@ -1,5 +1,5 @@
 use Rattle.text.proofs.SaysLaws.{same}
-use Rattle.std.proofs.Common.{rules, le-ltb, lt-ltb}
+use Rattle.std.proofs.Common.{le-ltb, lt-ltb}
 use Rattle.refusals_text.specs.Sentences.{bad_register}
 use Rattle.refusals_text.proofs.put_bad_register.Goals as goal
 

@@ -1,5 +1,5 @@
 use Rattle.text.proofs.SaysLaws.{same}
-use Rattle.std.proofs.Common.{rules, eq-eqb, ne_eqb}
+use Rattle.std.proofs.Common.{eq-eqb, ne_eqb}
 use Rattle.refusals_text.specs.Sentences.{bad_target}
 use Rattle.refusals_text.proofs.put_bad_target.Goals as goal
 

@@ -1,7 +1,6 @@
 use Rattle.text.proofs.SaysLaws.{same}
 use Rattle.refusals_text.specs.Sentences.{map_reason, map_reasons, no_reason}
 use Rattle.base.proofs.CasesLaws.{rest}
-use Rattle.std.proofs.Common.{rules}
 use Rattle.refusals_text.proofs.put_map_reason.Goals as goal
 
 pub returns-in-15 : goal.returns-in-15

@@ -1,5 +1,5 @@
 use Rattle.text.proofs.SaysLaws.{same}
-use Rattle.std.proofs.Common.{rules, eq-eqb, ne_eqb}
+use Rattle.std.proofs.Common.{eq-eqb, ne_eqb}
 use Rattle.refusals_text.specs.Sentences.{no_room}
 use Rattle.refusals_text.proofs.put_no_room.Goals as goal
 

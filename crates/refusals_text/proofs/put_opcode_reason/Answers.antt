@@ -1,7 +1,6 @@
 use Rattle.text.proofs.SaysLaws.{same}
 use Rattle.refusals_text.specs.Sentences.{opcode_reason, opcode_reasons, no_reason}
 use Rattle.base.proofs.CasesLaws.{rest}
-use Rattle.std.proofs.Common.{rules}
 use Rattle.refusals_text.proofs.put_opcode_reason.Goals as goal
 
 pub returns-in-8 : goal.returns-in-8

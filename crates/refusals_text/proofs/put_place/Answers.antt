@@ -1,6 +1,5 @@
 use Rattle.text.proofs.SaysLaws.{same, nothing}
 use Rattle.refusals_text.specs.Sentences.{place_of}
-use Rattle.std.proofs.Common.{rules}
 use Rattle.refusals_text.proofs.put_place.Goals as goal
 
 pub returns-then-is_of_slot : goal.returns-then-is_of_slot

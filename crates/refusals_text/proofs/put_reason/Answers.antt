@@ -1,5 +1,5 @@
 use Rattle.text.proofs.SaysLaws.{same}
-use Rattle.std.proofs.Common.{rules, le-ltb, lt-ltb}
+use Rattle.std.proofs.Common.{le-ltb, lt-ltb}
 use Rattle.refusals_text.specs.Sentences.{reason_of, slot_reason}
 use Rattle.refusals_text.proofs.put_reason.Goals as goal
 

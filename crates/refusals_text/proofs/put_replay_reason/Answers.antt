@@ -1,7 +1,6 @@
 use Rattle.text.proofs.SaysLaws.{same}
 use Rattle.base.proofs.CasesLaws.{rest}
 use Rattle.refusals_text.specs.Sentences.{replay_reason, replay_reasons, no_reason}
-use Rattle.std.proofs.Common.{rules}
 use Rattle.refusals_text.proofs.put_replay_reason.Goals as goal
 
 pub returns-in-17 : goal.returns-in-17

@@ -1,7 +1,6 @@
 use Rattle.text.proofs.SaysLaws.{same}
 use Rattle.refusals_text.specs.Sentences.{size_reason, size_reasons, no_reason}
 use Rattle.base.proofs.CasesLaws.{rest}
-use Rattle.std.proofs.Common.{rules}
 use Rattle.refusals_text.proofs.put_size_reason.Goals as goal
 
 pub returns-in-1 : goal.returns-in-1

@@ -1,7 +1,6 @@
 use Rattle.text.proofs.SaysLaws.{same}
 use Rattle.refusals_text.specs.Sentences.{slot_reason, slot_reasons, opcode_reason}
 use Rattle.base.proofs.CasesLaws.{rest}
-use Rattle.std.proofs.Common.{rules}
 use Rattle.refusals_text.proofs.put_slot_reason.Goals as goal
 
 pub returns-in-6 : goal.returns-in-6

@@ -1,5 +1,5 @@
 use Rattle.text.proofs.SaysLaws.{same}
-use Rattle.std.proofs.Common.{rules, le-leb}
+use Rattle.std.proofs.Common.{le-leb}
 use borrow.Author.Tests.{lt-leb}
 use Rattle.refusals_text.specs.Sentences.{torn}
 use Rattle.refusals_text.proofs.put_torn.Goals as goal

@@ -1,7 +1,6 @@
 use Rattle.text.proofs.SaysLaws.{then}
 use Rattle.refusals_text.specs.Sentences.{numbered_as}
 use Rattle.refusals_text.proofs.Enough.{enough, sentenced}
-use Rattle.std.proofs.Common.{rules}
 use Rattle.refusals_text.proofs.sentence.Goals as goal
 
 pub returns : goal.returns

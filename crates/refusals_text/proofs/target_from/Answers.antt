@@ -1,5 +1,4 @@
 use Rattle.refusals_text.specs.Sentences.{target_from}
-use Rattle.std.proofs.Common.{rules}
 use Rattle.refusals_text.proofs.target_from.Goals as goal
 
 pub returns : goal.returns

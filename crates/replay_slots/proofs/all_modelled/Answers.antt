@@ -1,11 +1,6 @@
-use mathlib.Core.Path.{◌≡◌, refl, ◌∙◌, sym, ap}
-use Prim.Native.Nat.{ℕ, ◌-◌, ◌≤◌, ◌/◌}
+use mathlib.Core.Path.{◌∙◌, sym}
 use native.Mathlib.Omega.{arith}
-use lib.ListN.{length}
-use borrow.Author.Rules.{rules}
-use Rattle.jit.specs.Translation.{slots_of}
-use Rattle.replay.specs.Report.{first_from}
-use Rattle.replay_slots.proofs.ModelledLaws.{found, passed, ended, whole}
+use Rattle.replay_slots.proofs.ModelledLaws.{found, passed}
 use Rattle.replay_slots.proofs.all_modelled.Goals as goal
 
 pub returns-then-codes-slot : goal.returns-then-codes-slot

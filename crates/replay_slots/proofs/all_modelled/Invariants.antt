@@ -1,11 +1,8 @@
-use mathlib.Core.Path.{◌≡◌, refl, ◌∙◌, sym, ap}
-use Prim.Native.Nat.{ℕ, ◌-◌, ◌≤◌, ◌/◌}
-use native.Mathlib.Omega.{arith}
+use mathlib.Core.Path.{◌≡◌}
+use Prim.Native.Nat.{◌-◌, ◌≤◌, ◌/◌}
 use lib.ListN.{length}
-use borrow.Author.Rules.{rules}
 use Rattle.jit.specs.Translation.{slots_of}
 use Rattle.replay.specs.Report.{first_from}
-use Rattle.replay_slots.proofs.ModelledLaws.{found, passed, ended, whole}
 use Rattle.replay_slots.proofs.all_modelled.Given as goal
 
 abbrev pub invariant-loop-slot : goal.invariant-loop-slot

@@ -1,6 +1,5 @@
 use Rattle.replay_slots.proofs.CodesLaws.{first, second}
 use mathlib.Core.Path.{sym, ◌∙◌}
-use borrow.Author.Rules.{rules}
 use Rattle.replay_slots.proofs.code_at.Goals as goal
 
 pub returns-then-second : goal.returns-then-second

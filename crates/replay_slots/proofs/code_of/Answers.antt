@@ -1,4 +1,4 @@
-use Rattle.replay_slots.proofs.CodesLaws.{good, bad-dst, bad-src}
+use Rattle.replay_slots.proofs.CodesLaws.{good}
 use borrow.Author.Rules.{rules}
 use Rattle.replay_slots.proofs.code_of.Goals as goal
 

@@ -1,11 +1,9 @@
-use mathlib.Core.Path.{◌≡◌, sym, ◌∙◌, refl}
-use Prim.Native.Nat.{◌≤◌, ◌-◌, ◌/◌}
+use mathlib.Core.Path.{refl}
 use native.Mathlib.Omega.{arith}
-use lib.ListN.{length, length-set}
+use lib.ListN.{length-set}
 use borrow.Author.Count.{below_none}
-use borrow.Author.Rules.{rules}
 use Rattle.replay.specs.Run.{is_second}
-use Rattle.replay_slots.proofs.CodesLaws.{Below, one_more, opens-next}
+use Rattle.replay_slots.proofs.CodesLaws.{one_more, opens-next}
 use Rattle.replay_slots.proofs.code_slots.Goals as goal
 
 pub loop-slot-init : goal.loop-slot-init

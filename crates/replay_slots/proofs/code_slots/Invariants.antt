@@ -1,11 +1,8 @@
-use mathlib.Core.Path.{◌≡◌, sym, ◌∙◌, refl}
+use mathlib.Core.Path.{◌≡◌}
 use Prim.Native.Nat.{◌≤◌, ◌-◌, ◌/◌}
-use native.Mathlib.Omega.{arith}
-use lib.ListN.{length, length-set}
-use borrow.Author.Count.{below_none}
-use borrow.Author.Rules.{rules}
+use lib.ListN.{length}
 use Rattle.replay.specs.Run.{is_second}
-use Rattle.replay_slots.proofs.CodesLaws.{Below, one_more, opens-next}
+use Rattle.replay_slots.proofs.CodesLaws.{Below}
 use Rattle.replay_slots.proofs.code_slots.Given as goal
 
 abbrev pub invariant-loop-slot : goal.invariant-loop-slot

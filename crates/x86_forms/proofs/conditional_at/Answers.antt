@@ -1,6 +1,5 @@
 use Rattle.base.proofs.Tests.{eqb-false}
 use Rattle.x86.specs.Decode.{opcode}
-use borrow.Author.Rules.{rules}
 use Rattle.x86_forms.proofs.conditional_at.Goals as goal
 
 pub returns-then-x : goal.returns-then-x

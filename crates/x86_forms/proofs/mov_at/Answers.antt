@@ -1,6 +1,5 @@
 use Rattle.x86_forms.proofs.ByRex.{mov-to-memory}
 use Rattle.x86.specs.Decode.{opcode}
-use borrow.Author.Rules.{rules}
 use Rattle.x86_forms.proofs.mov_at.Goals as goal
 
 pub returns-in-Bad : goal.returns-in-Bad

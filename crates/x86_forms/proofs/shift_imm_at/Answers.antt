@@ -1,6 +1,5 @@
 use native.Mathlib.Nat.{add-zero}
 use Rattle.x86.specs.Decode.{number}
-use borrow.Author.Rules.{rules}
 use Rattle.x86_forms.proofs.shift_imm_at.Goals as goal
 
 pub returns-in_default : goal.returns-in_default

@@ -1,6 +1,5 @@
 use native.Mathlib.Omega.{arith}
 use Rattle.x86_operands.specs.Operands.{destination_of}
-use borrow.Author.Rules.{rules}
 use Rattle.x86_operands.proofs.destination_of.Goals as goal
 
 pub returns : goal.returns

@@ -2,7 +2,6 @@ use Rattle.x86_operands.specs.Operands.{displacement_text}
 use borrow.Author.Tests.{lt-ltb, le-ltb}
 use Rattle.base.proofs.Tests.{eqb-true, eqb-false}
 use Rattle.text.proofs.SaysLaws.{same}
-use borrow.Author.Rules.{rules}
 use Rattle.x86_operands.proofs.put_displacement.Goals as goal
 
 pub returns-then-disp-eq0 : goal.returns-then-disp-eq0

@@ -1,7 +1,6 @@
 use Rattle.x86_operands.specs.Operands.{no_displacement_text}
 use Rattle.base.proofs.Tests.{eqb-true, eqb-false}
 use Rattle.text.proofs.SaysLaws.{same, nothing}
-use borrow.Author.Rules.{rules}
 use Rattle.x86_operands.proofs.put_no_displacement.Goals as goal
 
 pub returns-then-base-eq5 : goal.returns-then-base-eq5

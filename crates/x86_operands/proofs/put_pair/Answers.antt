@@ -1,6 +1,5 @@
 use Rattle.x86_operands.specs.Operands.{pair_text}
 use Rattle.text.proofs.SaysLaws.{then}
-use borrow.Author.Rules.{rules}
 use Rattle.x86_operands.proofs.put_pair.Goals as goal
 
 pub returns : goal.returns

@@ -1,5 +1,4 @@
 use Rattle.text.proofs.SaysLaws.{same}
-use borrow.Author.Rules.{rules}
 use Rattle.x86_operands.proofs.put_size.Goals as goal
 
 pub returns-in-S32 : goal.returns-in-S32

@@ -1,6 +1,5 @@
 use Rattle.x86_operands.specs.Operands.{store_text}
 use Rattle.text.proofs.SaysLaws.{then}
-use borrow.Author.Rules.{rules}
 use Rattle.x86_operands.proofs.put_store.Goals as goal
 
 pub returns : goal.returns

@@ -1,6 +1,5 @@
 use Rattle.x86_operands.specs.Operands.{with_constant_text}
 use Rattle.text.proofs.SaysLaws.{then}
-use borrow.Author.Rules.{rules}
 use Rattle.x86_operands.proofs.put_with_constant.Goals as goal
 
 pub returns : goal.returns

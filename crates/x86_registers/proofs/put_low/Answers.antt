@@ -1,5 +1,4 @@
 use Rattle.text.proofs.SaysLaws.{same, then}
-use borrow.Author.Rules.{rules}
 use Rattle.x86_registers.proofs.put_low.Goals as goal
 
 pub returns-in-S32 : goal.returns-in-S32

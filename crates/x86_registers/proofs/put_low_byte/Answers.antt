@@ -1,7 +1,6 @@
 use Rattle.x86_registers.specs.Registers.{byte_text, byte_names}
 use Rattle.base.proofs.CasesLaws.{rest}
 use Rattle.text.proofs.SaysLaws.{same}
-use borrow.Author.Rules.{rules}
 use Rattle.x86_registers.proofs.put_low_byte.Goals as goal
 
 pub returns-in-0 : goal.returns-in-0

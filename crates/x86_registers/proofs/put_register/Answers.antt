@@ -1,7 +1,6 @@
 use Rattle.x86_registers.specs.Registers.{register_text}
 use borrow.Author.Tests.{lt-ltb, le-ltb}
 use Rattle.text.proofs.SaysLaws.{same, then}
-use borrow.Author.Rules.{rules}
 use Rattle.x86_registers.proofs.put_register.Goals as goal
 
 pub returns-then-r-lt8 : goal.returns-then-r-lt8

@@ -1,7 +1,6 @@
 use Rattle.x86_registers.specs.Registers.{stem_text, stems}
 use Rattle.base.proofs.CasesLaws.{rest}
 use Rattle.text.proofs.SaysLaws.{same}
-use borrow.Author.Rules.{rules}
 use Rattle.x86_registers.proofs.put_stem.Goals as goal
 
 pub returns-in-0 : goal.returns-in-0

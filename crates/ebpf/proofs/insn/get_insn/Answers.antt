@@ -1,5 +1,5 @@
 use Rattle.ebpf.specs.Insn.{read_at}
-use Rattle.std.proofs.Common.{◌+◌, ◌*◌, ◌<◌, ◌≤◌, length, arith, rules, le-ltb, lt-ltb}
+use Rattle.std.proofs.Common.{◌+◌, ◌*◌, ◌<◌, ◌≤◌, length, arith, le-ltb, lt-ltb}
 use Rattle.ebpf.proofs.insn.get_insn.Goals as goal
 
 pub returns-then-prog-slot : goal.returns-then-prog-slot

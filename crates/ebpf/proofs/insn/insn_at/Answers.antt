@@ -1,5 +1,4 @@
 use Rattle.ebpf.specs.Insn.{insn_at}
-use Rattle.std.proofs.Common.{rules}
 use Rattle.ebpf.proofs.insn.insn_at.Goals as goal
 
 pub returns : goal.returns

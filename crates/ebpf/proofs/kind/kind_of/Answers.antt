@@ -1,4 +1,4 @@
-use Rattle.std.proofs.Common.{refl, rules}
+use Rattle.std.proofs.Common.{refl}
 use Rattle.ebpf.specs.Opcode.{kind_of}
 use Rattle.ebpf.specs.Kinds.{numbers}
 use Rattle.ebpf.proofs.kind.kind_of.Goals as goal

@@ -1,4 +1,4 @@
-use Rattle.std.proofs.Common.{sym, ◌∙◌, arith, rules}
+use Rattle.std.proofs.Common.{sym, ◌∙◌, arith}
 use Rattle.jit_lengths.proofs.LengthsLaws.{load-imm-low, load-imm-short, load-imm-long}
 use Rattle.jit_lengths.proofs.instruction.load_imm_length.Goals as goal
 

@@ -1,5 +1,5 @@
-use Rattle.jit_lengths.proofs.LengthsLaws.{load-positive, load-negative}
-use Rattle.std.proofs.Common.{sym, ◌∙◌, arith, rules}
+use Rattle.jit_lengths.proofs.LengthsLaws.{load-negative}
+use Rattle.std.proofs.Common.{sym, ◌∙◌, arith}
 use Rattle.jit_lengths.proofs.instruction.load_signed_length.Goals as goal
 
 pub returns : goal.returns

@@ -1,5 +1,5 @@
 use Rattle.jit_lengths.proofs.LengthsLaws.{memory-bare, memory-short, memory-long}
-use Rattle.std.proofs.Common.{sym, ◌∙◌, arith, rules}
+use Rattle.std.proofs.Common.{sym, ◌∙◌, arith}
 use Rattle.jit_lengths.proofs.instruction.memory_length.Goals as goal
 
 pub returns-then-bare : goal.returns-then-bare

@@ -1,5 +1,4 @@
 use Rattle.x86.specs.Encode.{rex}
-use Rattle.std.proofs.Common.{rules}
 use Rattle.jit_lengths.proofs.instruction.rex_length.Goals as goal
 
 pub returns : goal.returns

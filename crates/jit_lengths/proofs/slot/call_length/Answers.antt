@@ -1,5 +1,5 @@
 use Rattle.jit_lengths.proofs.LengthsLaws.{call-helper, call-local}
-use Rattle.std.proofs.Common.{arith, rules}
+use Rattle.std.proofs.Common.{arith}
 use Rattle.jit_lengths.proofs.slot.call_length.Goals as goal
 
 pub returns-then-i-eq0 : goal.returns-then-i-eq0

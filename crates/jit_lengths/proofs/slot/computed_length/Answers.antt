@@ -1,6 +1,6 @@
 use Rattle.ebpf.specs.declared.kind.MulOp.TheVariants.{Mul, Div, Mod}
 use Rattle.jit_lengths.proofs.LengthsLaws.{computed-size}
-use Rattle.std.proofs.Common.{arith, rules}
+use Rattle.std.proofs.Common.{arith}
 use Rattle.jit_lengths.proofs.slot.computed_length.Goals as goal
 
 pub returns-in-Mul : goal.returns-in-Mul

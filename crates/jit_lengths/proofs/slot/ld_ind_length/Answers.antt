@@ -1,5 +1,5 @@
 use Rattle.jit_lengths.proofs.LengthsLaws.{ind-size}
-use Rattle.std.proofs.Common.{arith, rules}
+use Rattle.std.proofs.Common.{arith}
 use Rattle.jit_lengths.proofs.slot.ld_ind_length.Goals as goal
 
 pub returns : goal.returns

@@ -1,5 +1,5 @@
-use Rattle.jit_lengths.proofs.LengthsLaws.{mov-imm-half, mov-imm-whole, mov-half, mov-whole}
-use Rattle.std.proofs.Common.{sym, ◌∙◌, arith, rules}
+use Rattle.jit_lengths.proofs.LengthsLaws.{mov-whole}
+use Rattle.std.proofs.Common.{sym, ◌∙◌, arith}
 use Rattle.jit_lengths.proofs.slot.mov_length.Goals as goal
 
 pub returns-in-W64-copy_width : goal.returns-in-W64-copy_width

@@ -1,5 +1,5 @@
-use Rattle.jit_lengths.proofs.LengthsLaws.{imm-zero, imm-some, reg-size}
-use Rattle.std.proofs.Common.{arith, rules}
+use Rattle.jit_lengths.proofs.LengthsLaws.{reg-size}
+use Rattle.std.proofs.Common.{arith}
 use Rattle.jit_lengths.proofs.slot.operation_length.Goals as goal
 
 pub returns-in-Reg : goal.returns-in-Reg

@@ -1,5 +1,5 @@
-use Rattle.jit_lengths.proofs.LengthsLaws.{shift-imm, shift-reg}
-use Rattle.std.proofs.Common.{arith, rules}
+use Rattle.jit_lengths.proofs.LengthsLaws.{shift-reg}
+use Rattle.std.proofs.Common.{arith}
 use Rattle.jit_lengths.proofs.slot.shift_length.Goals as goal
 
 pub returns-in-Reg : goal.returns-in-Reg

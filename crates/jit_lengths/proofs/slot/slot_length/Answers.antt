@@ -2,7 +2,7 @@ use Rattle.jit_lengths.proofs.LengthsLaws.{alu-size}
 use Rattle.jit_lengths.proofs.ByNumber.{no_length, kind-read}
 use Rattle.ebpf.specs.Kinds as opcodes
 use Rattle.jit.specs.Slots.{alu_of}
-use Rattle.std.proofs.Common.{refl, ◌∙◌, arith, rules}
+use Rattle.std.proofs.Common.{refl, ◌∙◌, arith}
 use Rattle.jit_lengths.proofs.slot.slot_length.Goals as goal
 
 pub returns-in-3 : goal.returns-in-3

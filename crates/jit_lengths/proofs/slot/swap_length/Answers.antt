@@ -1,5 +1,5 @@
-use Rattle.jit_lengths.proofs.LengthsLaws.{swap-16, swap_32, swap_64}
-use Rattle.std.proofs.Common.{arith, rules}
+use Rattle.jit_lengths.proofs.LengthsLaws.{swap_64}
+use Rattle.std.proofs.Common.{arith}
 use Rattle.jit_lengths.proofs.slot.swap_length.Goals as goal
 
 pub returns : goal.returns

@@ -1,5 +1,5 @@
 use Rattle.jit_lengths.proofs.LengthsLaws.{tested_low, tested-as-ever}
-use Rattle.std.proofs.Common.{arith, rules}
+use Rattle.std.proofs.Common.{arith}
 use Rattle.jit_lengths.proofs.slot.tested_length.Goals as goal
 
 pub returns-then-mode : goal.returns-then-mode

@@ -1,5 +1,5 @@
-use Rattle.std.proofs.Common.{sym, ◌∙◌, arith, rules}
-use Rattle.jit.proofs.Constants.{load-short, load-long, low_below, loaded-low, loaded-high}
+use Rattle.std.proofs.Common.{sym, ◌∙◌}
+use Rattle.jit.proofs.Constants.{load-short, load-long, loaded-low, loaded-high}
 use Rattle.jit_recording.proofs.constant.emit_load_imm.Goals as goal
 
 pub returns-then-wrapping_add_u64-lt4294967296 : goal.returns-then-wrapping_add_u64-lt4294967296

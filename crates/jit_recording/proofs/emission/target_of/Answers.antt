@@ -1,5 +1,4 @@
 use Rattle.jit.specs.Slots.{target_of}
-use Rattle.std.proofs.Common.{rules}
 use Rattle.jit_recording.proofs.emission.target_of.Goals as goal
 
 pub returns : goal.returns

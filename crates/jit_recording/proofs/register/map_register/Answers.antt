@@ -1,6 +1,5 @@
 use Rattle.std.proofs.Common.{arith}
 use Rattle.jit_recording.proofs.RegisterMap.{register}
-use Rattle.jit_recording.proofs.Sixteen.{last}
 use Rattle.jit_recording.proofs.register.map_register.Goals as goal
 
 pub returns-in-0 : goal.returns-in-0

@@ -1,5 +1,5 @@
 use Rattle.jit_resolving.proofs.Filling.{wraps, fills}
-use Rattle.std.proofs.Common.{◌∙◌, arith, rules}
+use Rattle.std.proofs.Common.{◌∙◌, rules}
 use Rattle.jit_resolving.proofs.resolve.resolve_jumps.Goals as goal
 
 pub loop-k-preserved : goal.loop-k-preserved

@@ -1,7 +1,7 @@
-use Rattle.jit_resolving.proofs.Filling.{Filling, wraps, fills, filled-all}
+use Rattle.jit_resolving.proofs.Filling.{Filling}
 use Rattle.jit.specs.Translation.{place_of}
 use Rattle.x86.specs.Fill.{filled}
-use Rattle.std.proofs.Common.{◌≡◌, ◌+◌, ◌-◌, length, take, refl, ◌∙◌, arith, rules}
+use Rattle.std.proofs.Common.{◌≡◌, ◌+◌, ◌-◌, length, take}
 use Rattle.jit_resolving.proofs.resolve.resolve_jumps.Given as goal
 
 abbrev pub invariant-loop-k : goal.invariant-loop-k

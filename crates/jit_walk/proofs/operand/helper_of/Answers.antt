@@ -1,9 +1,6 @@
 use native.Mathlib.Omega.{arith}
 use Rattle.jit_walk.proofs.OperandsLaws.{search-on, search-hit, search-end}
-use Rattle.jit.specs.Translation.{helper_of}
-use mathlib.Core.Path.{◌≡◌, ◌∙◌, refl, sym}
-use lib.ListN.{length, drop}
-use Prim.Native.Nat.{◌≤◌, ◌-◌}
+use mathlib.Core.Path.{◌∙◌, sym}
 use borrow.Author.Rules.{rules}
 use Rattle.jit_walk.proofs.operand.helper_of.Goals as goal
 

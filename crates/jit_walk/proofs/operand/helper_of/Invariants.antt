@@ -1,10 +1,7 @@
-use native.Mathlib.Omega.{arith}
-use Rattle.jit_walk.proofs.OperandsLaws.{search-on, search-hit, search-end}
 use Rattle.jit.specs.Translation.{helper_of}
-use mathlib.Core.Path.{◌≡◌, ◌∙◌, refl, sym}
+use mathlib.Core.Path.{◌≡◌}
 use lib.ListN.{length, drop}
 use Prim.Native.Nat.{◌≤◌, ◌-◌}
-use borrow.Author.Rules.{rules}
 use Rattle.jit_walk.proofs.operand.helper_of.Given as goal
 
 abbrev pub invariant-loop-k : goal.invariant-loop-k

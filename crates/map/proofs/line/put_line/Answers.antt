@@ -1,8 +1,6 @@
 use mathlib.Core.Path.{sym}
-use native.Mathlib.Omega.{arith}
-use Rattle.text.proofs.SaysLaws.{same, nothing, then}
-use Rattle.map.proofs.LineLaws.{some-line, no_line, line-room, after}
-use borrow.Author.Rules.{rules}
+use Rattle.text.proofs.SaysLaws.{same, then}
+use Rattle.map.proofs.LineLaws.{some-line}
 use Rattle.map.proofs.line.put_line.Goals as goal
 
 pub returns : goal.returns

@@ -1,5 +1,4 @@
 use Rattle.ebpf_meaning.specs.Values.{met}
-use Rattle.std.proofs.Common.{rules}
 use Rattle.replay_values.proofs.condition.met.Goals as goal
 
 pub returns-in-Jeq : goal.returns-in-Jeq

@@ -1,6 +1,6 @@
 use Rattle.ebpf_meaning.specs.Values.{mul_value}
 use Rattle.replay_values.proofs.WidthLaws.{cut_twice}
-use Rattle.std.proofs.Common.{◌∙◌, rules}
+use Rattle.std.proofs.Common.{◌∙◌}
 use Rattle.replay_values.proofs.product.mul.Goals as goal
 
 pub returns-in-Mul : goal.returns-in-Mul

@@ -1,5 +1,5 @@
 use Rattle.replay_values.proofs.ProductLaws.{wraps}
-use Rattle.std.proofs.Common.{◌∙◌, rules}
+use Rattle.std.proofs.Common.{◌∙◌}
 use Rattle.replay_values.proofs.product.wrapped.Goals as goal
 
 pub returns : goal.returns

@@ -1,7 +1,5 @@
 use Rattle.base.specs.Widths.{bits}
-use lib.Pow.{shr_le}
-use Rattle.replay_values.proofs.ShiftLaws.{not_negative, is_negative, taken, count_word}
-use Rattle.std.proofs.Common.{rules}
+use Rattle.replay_values.proofs.ShiftLaws.{is_negative, taken}
 use Rattle.replay_values.proofs.shift.fill.Goals as goal
 
 pub returns : goal.returns

@@ -1,7 +1,7 @@
 use Rattle.ebpf_meaning.specs.Values.{shift_value}
-use Rattle.replay_values.proofs.ShiftLaws.{fits, word, count_word}
+use Rattle.replay_values.proofs.ShiftLaws.{fits, word}
 use Rattle.replay_values.proofs.WidthLaws.{cut_twice}
-use Rattle.std.proofs.Common.{◌∙◌, rules}
+use Rattle.std.proofs.Common.{◌∙◌}
 use Rattle.replay_values.proofs.shift.shift.Goals as goal
 
 pub overflow_add-result : goal.overflow_add-result

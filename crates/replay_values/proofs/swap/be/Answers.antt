@@ -1,5 +1,4 @@
-use Rattle.replay_values.proofs.SwapLaws.{at_most, inside, turned}
-use Rattle.std.proofs.Common.{rules}
+use Rattle.replay_values.proofs.SwapLaws.{turned}
 use Rattle.replay_values.proofs.swap.be.Goals as goal
 
 pub returns : goal.returns

@@ -1,5 +1,5 @@
 use Rattle.ebpf_meaning.specs.Values.{le_value}
-use Rattle.std.proofs.Common.{pow_pos, rules}
+use Rattle.std.proofs.Common.{rules}
 use Rattle.replay_values.proofs.SwapLaws.{unit, whole}
 use Rattle.replay_values.proofs.swap.le.Goals as goal
 

@@ -1,5 +1,4 @@
 use Rattle.replay_values.proofs.SwapLaws.{eight}
-use Rattle.std.proofs.Common.{rules}
 use Rattle.replay_values.proofs.swap.reversed8.Goals as goal
 
 pub returns : goal.returns

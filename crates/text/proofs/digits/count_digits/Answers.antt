@@ -1,7 +1,6 @@
-use Rattle.text.proofs.DigitsLaws.{square-small, cube-small, fourth-small, square-below, square_above, cube-below, cube-above, fourth-below, fourth-above}
-use Rattle.text.proofs.DigitsLaws.{Counting, counting, few, four-less, counted-1, counted-2, counted-3, counted-4}
+use Rattle.text.proofs.DigitsLaws.{square-below, square_above, cube-below, cube-above, fourth-below, fourth-above}
+use Rattle.text.proofs.DigitsLaws.{counting, few, four-less, counted-1, counted-2, counted-3, counted-4}
 use native.Mathlib.Omega.{arith}
-use borrow.Author.Rules.{rules}
 use Rattle.text.proofs.digits.count_digits.Goals as goal
 
 pub loop-rest-smaller : goal.loop-rest-smaller

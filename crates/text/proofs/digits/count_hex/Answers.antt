@@ -2,7 +2,6 @@ use mathlib.Core.Path.{◌∙◌, ap}
 use lib.ListN.{length}
 use native.Mathlib.Omega.{arith}
 use Rattle.text.proofs.DigitsLaws.{hex-is}
-use borrow.Author.Rules.{rules}
 use Rattle.text.proofs.digits.count_hex.Goals as goal
 
 pub returns : goal.returns

@@ -1,6 +1,5 @@
 use native.Mathlib.Omega.{arith}
 use Rattle.text.specs.Numerals.{decimal}
-use borrow.Author.Rules.{rules}
 use Rattle.text.proofs.digits.put_decimal.Goals as goal
 
 pub put_digits-requires : goal.put_digits-requires

@@ -1,10 +1,6 @@
 use mathlib.Core.Path.{◌∙◌}
-use Rattle.text.proofs.DigitsLaws.{square-some, both_small, square-small, square-below, square_above, two-left, one_left, last-two, less-twice, ending, ended-1, ended-2}
-use Prim.Native.Nat.{◌-◌}
-use mathlib.Core.Path.{refl}
+use Rattle.text.proofs.DigitsLaws.{square-some, both_small, square-below, square_above, two-left, one_left, last-two, less-twice, ending, ended-1, ended-2}
 use native.Mathlib.Omega.{arith}
-use Rattle.text.proofs.DigitsLaws.{Ending}
-use borrow.Author.Rules.{rules}
 use Rattle.text.proofs.digits.put_ending.Goals as goal
 
 pub overflow_sub-left : goal.overflow_sub-left

@@ -1,7 +1,6 @@
 use native.Mathlib.Omega.{arith}
 use Rattle.text.proofs.SaysLaws.{same}
 use Rattle.text.proofs.DigitsLaws.{hex-is}
-use borrow.Author.Rules.{rules}
 use Rattle.text.proofs.digits.put_hex.Goals as goal
 
 pub put_digits-requires : goal.put_digits-requires

@@ -3,7 +3,6 @@ use lib.ListN.{length}
 use native.Mathlib.Omega.{arith}
 use Rattle.text.proofs.SaysLaws.{same}
 use Rattle.text.proofs.DigitsLaws.{hex-is, said}
-use borrow.Author.Rules.{rules}
 use Rattle.text.proofs.digits.put_hex_counted.Goals as goal
 
 pub put_ending-requires : goal.put_ending-requires

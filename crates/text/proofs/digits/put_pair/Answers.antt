@@ -1,7 +1,4 @@
-use lib.ListN.{length-set}
-use native.Mathlib.Omega.{arith}
-use Rattle.text.proofs.DigitsLaws.{pair-less, pair_inside, pair_fits, pair-stored}
-use borrow.Author.Rules.{rules}
+use Rattle.text.proofs.DigitsLaws.{pair-stored}
 use Rattle.text.proofs.digits.put_pair.Goals as goal
 
 pub returns : goal.returns

@@ -1,7 +1,5 @@
 use mathlib.Core.Path.{refl}
-use native.Mathlib.Omega.{arith}
-use Rattle.text.proofs.DigitsLaws.{single-fits, single-is}
-use borrow.Author.Rules.{rules}
+use Rattle.text.proofs.DigitsLaws.{single-is}
 use Rattle.text.proofs.digits.put_single.Goals as goal
 
 pub returns : goal.returns

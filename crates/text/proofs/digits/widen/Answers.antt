@@ -1,8 +1,6 @@
-use Prim.Native.Nat.{◌-◌}
 use native.Mathlib.Omega.{arith}
-use Rattle.text.proofs.DigitsLaws.{Widening, fits, widening, widened}
+use Rattle.text.proofs.DigitsLaws.{fits, widening, widened}
 use Rattle.text.proofs.NumeralLaws.{hex-most}
-use borrow.Author.Rules.{rules}
 use Rattle.text.proofs.digits.widen.Goals as goal
 
 pub overflow_mul-largest : goal.overflow_mul-largest

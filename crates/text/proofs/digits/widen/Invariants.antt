@@ -1,8 +1,5 @@
 use Prim.Native.Nat.{◌-◌}
-use native.Mathlib.Omega.{arith}
-use Rattle.text.proofs.DigitsLaws.{Widening, fits, widening, widened}
-use Rattle.text.proofs.NumeralLaws.{hex-most}
-use borrow.Author.Rules.{rules}
+use Rattle.text.proofs.DigitsLaws.{Widening}
 use Rattle.text.proofs.digits.widen.Given as goal
 
 abbrev pub invariant-loop-largest : goal.invariant-loop-largest

@@ -1,11 +1,8 @@
 use Prim.Native.Nat.{◌≤◌, ◌-◌}
-use mathlib.Core.Path.{◌≡◌, ◌∙◌, refl}
-use native.Mathlib.Omega.{arith}
+use mathlib.Core.Path.{◌≡◌}
 use lib.ListN.{length, drop}
-use borrow.Author.Rules.{rules}
-use Rattle.text.proofs.SaysLaws.{Leads, turn, kept}
+use Rattle.text.proofs.SaysLaws.{Leads}
 use Rattle.text.specs.Forms.{formed, formed_from}
-use Rattle.text.proofs.FormLaws.{left-form, done-form}
 use Rattle.text.proofs.form.put_form.Given as goal
 
 abbrev pub invariant-loop-i : goal.invariant-loop-i

@@ -1,6 +1,5 @@
 use Rattle.text.proofs.SaysLaws.{same, then}
 use Rattle.text.proofs.NumeralLaws.{apart-plus, apart-minus}
-use borrow.Author.Rules.{rules}
 use Rattle.text.proofs.number.put_apart.Goals as goal
 
 pub returns-then-x-lt-HALF : goal.returns-then-x-lt-HALF

@@ -1,5 +1,4 @@
 use Rattle.text.specs.Numerals.{decimal}
-use borrow.Author.Rules.{rules}
 use Rattle.text.proofs.number.put_decimal.Goals as goal
 
 pub returns : goal.returns

@@ -1,10 +1,8 @@
-use mathlib.Core.Path.{refl, sym}
-use lib.Seq.{length-take-le}
+use mathlib.Core.Path.{refl}
 use native.Mathlib.Omega.{arith}
 use Rattle.text.specs.Numerals.{most_digits, pairs}
-use Rattle.text.proofs.SaysLaws.{same, stands, kept}
+use Rattle.text.proofs.SaysLaws.{same, stands}
 use Rattle.text.proofs.NumeralLaws.{numeral-most}
-use borrow.Author.Rules.{rules}
 use Rattle.text.proofs.number.put_numeral.Goals as goal
 
 pub put_digits-end-requires : goal.put_digits-end-requires

@@ -1,6 +1,5 @@
 use Rattle.text.proofs.SaysLaws.{same, then}
-use Rattle.text.proofs.NumeralLaws.{signed-plus, signed-minus}
-use borrow.Author.Rules.{rules}
+use Rattle.text.proofs.NumeralLaws.{signed-minus}
 use Rattle.text.proofs.number.put_signed.Goals as goal
 
 pub returns : goal.returns

@@ -1,6 +1,5 @@
 use Rattle.text.proofs.SaysLaws.{same, then}
 use Rattle.text.proofs.NumeralLaws.{with-sign-plus, with-sign-minus}
-use borrow.Author.Rules.{rules}
 use Rattle.text.proofs.number.put_with_sign.Goals as goal
 
 pub returns-then-x-lt-HALF : goal.returns-then-x-lt-HALF

@@ -1,9 +1,5 @@
-use Prim.Native.Nat.{◌-◌}
-use mathlib.Core.Path.{◌≡◌, ◌∙◌, refl}
-use native.Mathlib.Omega.{arith}
-use lib.ListN.{length, replicate}
-use borrow.Author.Rules.{rules}
-use Rattle.text.proofs.SaysLaws.{Leads, turn, left-copies, kept, done-copies}
+use mathlib.Core.Path.{◌∙◌}
+use Rattle.text.proofs.SaysLaws.{turn, left-copies, kept}
 use Rattle.text.proofs.text.put_padding.Goals as goal
 
 pub loop-i-preserved : goal.loop-i-preserved

@@ -1,9 +1,7 @@
 use Prim.Native.Nat.{◌-◌}
-use mathlib.Core.Path.{◌≡◌, ◌∙◌, refl}
-use native.Mathlib.Omega.{arith}
+use mathlib.Core.Path.{◌≡◌}
 use lib.ListN.{length, replicate}
-use borrow.Author.Rules.{rules}
-use Rattle.text.proofs.SaysLaws.{Leads, turn, left-copies, kept, done-copies}
+use Rattle.text.proofs.SaysLaws.{Leads}
 use Rattle.text.proofs.text.put_padding.Given as goal
 
 abbrev pub invariant-loop-i : goal.invariant-loop-i

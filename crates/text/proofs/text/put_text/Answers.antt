@@ -1,9 +1,6 @@
-use Prim.Native.Nat.{◌≤◌, ◌-◌}
-use mathlib.Core.Path.{◌≡◌, ◌∙◌, refl}
+use mathlib.Core.Path.{◌∙◌}
 use native.Mathlib.Omega.{arith}
-use lib.ListN.{length, drop}
-use borrow.Author.Rules.{rules}
-use Rattle.text.proofs.SaysLaws.{Leads, turn, left-text, kept, done-text}
+use Rattle.text.proofs.SaysLaws.{turn, left-text, kept}
 use Rattle.text.proofs.text.put_text.Goals as goal
 
 pub loop-i-preserved : goal.loop-i-preserved

@@ -1,5 +1,4 @@
 use Rattle.x86.specs.Encode.{rex}
-use Rattle.std.proofs.Common.{rules}
 use Rattle.x86_emit.proofs.bytes.emit_rexed.Goals as goal
 
 pub returns : goal.returns

@@ -1,4 +1,4 @@
-use Rattle.std.proofs.Common.{refl, arith, rules}
+use Rattle.std.proofs.Common.{refl, arith}
 use Rattle.x86.specs.Encode.{modrm}
 use Rattle.x86_emit.proofs.bytes.modrm.Goals as goal
 

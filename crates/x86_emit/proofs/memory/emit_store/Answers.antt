@@ -1,5 +1,4 @@
-use Rattle.std.proofs.Common.{ℕ, List, ◌∷◌, ◌++◌, refl, ap, lit<, rules}
-use Rattle.x86.specs.Encode.{rex_rule, forced}
+use Rattle.std.proofs.Common.{ℕ, List, ◌∷◌, refl, ap, lit<}
 use Rattle.x86_emit.proofs.InstructionWords.{rexed, opcode1}
 use Rattle.x86_emit.proofs.WroteLaws.{same, then}
 use Rattle.x86_emit.proofs.memory.emit_store.Goals as goal

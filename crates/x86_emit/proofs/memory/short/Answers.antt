@@ -1,5 +1,4 @@
 use Rattle.x86.specs.Encode.{short}
-use Rattle.std.proofs.Common.{rules}
 use Rattle.x86_emit.proofs.memory.short.Goals as goal
 
 pub returns : goal.returns

@@ -1,5 +1,4 @@
 use Rattle.x86_encoding.proofs.BytesLaws.{number8}
-use borrow.Author.Rules.{rules}
 use Rattle.x86_encoding.proofs.bytes.eight_at.Goals as goal
 
 pub returns-in_default : goal.returns-in_default

@@ -1,7 +1,6 @@
 use Rattle.x86_encoding.proofs.OperandLaws.{none_reads}
 use Rattle.x86.specs.Decode.{with_modrm, reg_number, low_number, in_memory}
 use Rattle.base.proofs.Tests.{eqb-false}
-use borrow.Author.Rules.{rules}
 use Rattle.x86_encoding.proofs.operand.displacement_at.Goals as goal
 
 pub returns-in-2 : goal.returns-in-2

@@ -1,6 +1,5 @@
 use Rattle.x86.specs.Decode.{with_rex}
 use Rattle.base.proofs.Tests.{eqb-true, eqb-false}
-use borrow.Author.Rules.{rules}
 use Rattle.x86_encoding.proofs.operand.head_at.Goals as goal
 
 pub returns-in_default : goal.returns-in_default

@@ -1,6 +1,5 @@
 use native.Mathlib.Nat.{zero-add}
 use Rattle.x86.specs.Decode.{low_number}
-use borrow.Author.Rules.{rules}
 use Rattle.x86_encoding.proofs.operand.low_number.Goals as goal
 
 pub returns-then-x : goal.returns-then-x

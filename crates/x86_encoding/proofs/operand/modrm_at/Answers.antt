@@ -1,6 +1,5 @@
 use Rattle.x86.specs.Decode.{with_modrm}
 use Rattle.base.proofs.Tests.{eqb-true, eqb-false}
-use borrow.Author.Rules.{rules}
 use Rattle.x86_encoding.proofs.operand.modrm_at.Goals as goal
 
 pub returns-in_default : goal.returns-in_default

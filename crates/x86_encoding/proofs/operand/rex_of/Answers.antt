@@ -2,7 +2,6 @@ use native.Mathlib.Omega.{arith}
 use Prim.Native.Nat.{◌/◌, ◌%◌}
 use Rattle.x86_encoding.proofs.OperandLaws.{bit-of}
 use Rattle.x86.specs.Decode.{rex_of}
-use borrow.Author.Rules.{rules}
 use Rattle.x86_encoding.proofs.operand.rex_of.Goals as goal
 
 pub returns : goal.returns

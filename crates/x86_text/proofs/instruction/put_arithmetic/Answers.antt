@@ -1,6 +1,5 @@
 use Rattle.x86_text.specs.Intel.{arithmetic_text}
 use Rattle.text.proofs.SaysLaws.{same}
-use borrow.Author.Rules.{rules}
 use Rattle.x86_text.proofs.instruction.put_arithmetic.Goals as goal
 
 pub returns : goal.returns

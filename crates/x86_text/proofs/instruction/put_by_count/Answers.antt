@@ -1,6 +1,5 @@
 use Rattle.x86_text.specs.Intel.{by_count_text}
 use Rattle.text.proofs.SaysLaws.{then}
-use borrow.Author.Rules.{rules}
 use Rattle.x86_text.proofs.instruction.put_by_count.Goals as goal
 
 pub returns : goal.returns
