@@ -1,4 +1,3 @@
 // The theorem about `translate` on one page (specs/Theorem.antt), and its proof. There is no code here.
 
 #![tactic(auto)]
-
