@@ -4,7 +4,7 @@ use Prim.Native.Nat.{ℕ}
 use native.Mathlib.Omega.{arith}
 use Rattle.text.specs.Text.{ascii}
 use Rattle.listing_arguments.specs.Arguments as arguments
-use Rattle.replay_options.specs.declared.words.Word.TheVariants.{WriteNext, Name, Foreign, Common}
+use Rattle.replay_options.specs.declared.words.Word.TheVariants.{WriteNext, Name, Common}
 use Rattle.replay_options.specs.Words.{word_of}
 
 pub known : (word_of (ascii "--write") ≡ WriteNext) × ((word_of (ascii "-") ≡ Name) × (word_of (ascii "trace.pcap") ≡ Name))
