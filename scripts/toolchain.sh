@@ -130,7 +130,7 @@ kit_command() {
 
 # up_to_date FILE SOURCE..: the file is there, and no source is newer. What checks leave in the folders out/ is no source.
 up_to_date() {
-    [ -e "$1" ] && [ -z "$(find "${@:2}" -name out -type d -prune -o -type f -newer "$1" -print -quit)" ]
+    [ -e "$1" ] && [ -z "$(find "${@:2}" -name out -type d -prune -o \( -type f -o -path '*/src*' -o -path '*/specs*' -o -path '*/proofs*' \) -newer "$1" -print -quit)" ]
 }
 
 build_library() {
