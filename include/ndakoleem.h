@@ -2,9 +2,9 @@
  *
  * Link with libndakoleem.a, which `./run libraries` writes to target/staticlib; a caller of ndakoleem_translate_mapped_1 or
  * ndakoleem_translate_mapped_into links libndakoleem_map.a too, and one of ndakoleem_run_packet_1 or
- * ndakoleem_run_packet_into libndakoleem_replay.a, which takes memset from the C library. Each library is
- * x86-64 code, allocates nothing, keeps nothing between calls, calls nothing of the operating system, and can be called by several threads at
- * once, each with its own buffers.
+ * ndakoleem_run_packet_into libndakoleem_replay.a. Each takes memset from the C library, the
+ * last memmove too. Each is x86-64 code, allocates nothing, keeps nothing between calls, calls nothing of the operating system, and can be
+ * called by several threads at once, each with its own buffers.
  *
  *     static struct ndakoleem_memory memory;
  *     struct ndakoleem_buffers lent = ndakoleem_lend(&memory);
