@@ -170,31 +170,31 @@ fn the_header_has_the_same_numbers() {
 fn the_definitions_have_the_same_numbers() {
     let limits = definitions(&["code", "jit"]);
     for (name, number) in [
-        ("mostSlots", SLOTS_MAX),
-        ("longestProgram", PROGRAM_MAX),
-        ("shortestPage", CODE_MIN),
-        ("longestPage", CODE_MAX),
-        ("longSlot", SLOT_CODE_MAX),
-        ("longestFrame", FRAME_CODE_MAX),
-        ("longestCode", CODE_LONGEST),
-        ("mostHelpers", HELPERS_MAX),
+        ("most_slots", SLOTS_MAX),
+        ("longest_program", PROGRAM_MAX),
+        ("shortest_page", CODE_MIN),
+        ("longest_page", CODE_MAX),
+        ("long_slot", SLOT_CODE_MAX),
+        ("longest_frame", FRAME_CODE_MAX),
+        ("longest_code", CODE_LONGEST),
+        ("most_helpers", HELPERS_MAX),
         ("anchor", EXIT_TARGET as usize),
         ("conditional", JumpKind::Conditional as usize),
-        ("plainJump", JumpKind::Plain as usize),
-        ("localCall", JumpKind::LocalCall as usize),
+        ("plain_jump", JumpKind::Plain as usize),
+        ("local_call", JumpKind::LocalCall as usize),
     ] {
         assert_eq!(limits.get(name), Some(&number), "{name}");
     }
-    assert_eq!(definitions(&["refusals_text"]).get("sentenceEnough"), Some(&SENTENCE_ENOUGH));
+    assert_eq!(definitions(&["refusals_text"]).get("sentence_enough"), Some(&SENTENCE_ENOUGH));
 }
 
 #[test]
 fn the_definitions_of_maps_have_the_same_numbers() {
     let mapping = definitions(&["jit_mapping"]);
     for (name, number) in [
-        ("longestLine", MAP_LINE_MAX),
-        ("numberOf BaseTooHigh", Reason::BaseTooHigh as usize),
-        ("numberOf TextTooShort", Reason::TextTooShort as usize),
+        ("longest_line", MAP_LINE_MAX),
+        ("number_of BaseTooHigh", Reason::BaseTooHigh as usize),
+        ("number_of TextTooShort", Reason::TextTooShort as usize),
     ] {
         assert_eq!(mapping.get(name), Some(&number), "{name}");
     }
@@ -204,15 +204,15 @@ fn the_definitions_of_maps_have_the_same_numbers() {
 fn the_definitions_of_runs_have_the_same_numbers() {
     let replay = definitions(&["pcap", "replay", "ndakoleem_replay"]);
     for (name, number) in [
-        ("longestPacket", PACKET_MAX),
-        ("stepLimit", STEPS_MAX),
-        ("numberOf NotPcap", Reason::NotPcap as usize),
-        ("numberOf BadRecord", Reason::BadRecord as usize),
-        ("numberOf (NotModelled s)", Reason::NotModelled as usize),
-        ("endedOf (Exit r0)", Ended::Exit(0).number() as usize),
-        ("endedOf StepLimit", Ended::StepLimit.number() as usize),
-        ("endedOf Access", Ended::Access.number() as usize),
-        ("endedOf NoSlot", Ended::NoSlot.number() as usize),
+        ("longest_packet", PACKET_MAX),
+        ("step_limit", STEPS_MAX),
+        ("number_of NotPcap", Reason::NotPcap as usize),
+        ("number_of BadRecord", Reason::BadRecord as usize),
+        ("number_of (NotModelled s)", Reason::NotModelled as usize),
+        ("ended_of (Exit r0)", Ended::Exit(0).number() as usize),
+        ("ended_of StepLimit", Ended::StepLimit.number() as usize),
+        ("ended_of Access", Ended::Access.number() as usize),
+        ("ended_of NoSlot", Ended::NoSlot.number() as usize),
     ] {
         assert_eq!(replay.get(name), Some(&number), "{name}");
     }
