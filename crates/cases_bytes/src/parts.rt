@@ -1,6 +1,6 @@
 // A case taken apart.
 ghost use Rattle.std.specs.Prelude.{◌≡◌, ◌+◌, ◌*◌, ◌≤◌, ◌<◌, length};
-ghost use Rattle.cases_bytes.specs.Cases.{lengths_end as Cases·lengthsEnd};
+ghost use Rattle.cases_bytes.specs.Cases.{lengths_end as Cases·lengths_end};
 ghost use Rattle.base.specs.Lent.{read, seen};
 ghost use Rattle.cases_bytes.specs.Cases.{program_at, no_case};
 ghost use Rattle.cases_bytes.specs.Lent.{length_of, lengths_end, case_of, wrong_with, further, parts_of, id_at, address_at, Filled, Inside};
@@ -143,7 +143,7 @@ fn read_addresses(body: &[u8], at: usize, addresses: &mut [u64])
 
 // The length of a further table: the one at a place, or `unsaid` where bit 7 is not set.
 fn further_length(body: &[u8], at: usize, unsaid: usize) -> usize
-    requires { (at ≤ 21) × (Cases·lengthsEnd body.now ≤ length body.now) }
+    requires { (at ≤ 21) × (Cases·lengths_end body.now ≤ length body.now) }
     ensures { result ≡ further body at unsaid }
 {
     if body[0] / 128 == 1 {

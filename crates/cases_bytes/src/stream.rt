@@ -1,6 +1,6 @@
 // A stream of records, each with its length in four bytes in front, read through a buffer: records of any length that the buffer holds,
 // one at a time, however long the stream is.
-ghost use Rattle.std.specs.Prelude.{◌≡◌, ◌+◌, ◌≤◌, leb, length};
+ghost use Rattle.std.specs.Prelude.{◌≡◌, ◌+◌, ◌≤◌, leb, length, true, false};
 ghost use Rattle.cases_bytes.specs.Lent.{number_at};
 
 use crate::numbers;
@@ -29,7 +29,7 @@ pub struct Record {
 
 // What is there of a stream of which no read failed.
 pub fn window_of(start: usize, end: usize) -> Window
-    ensures { (result.start ≡ start) × (result.end ≡ end) }
+    ensures { (result.start ≡ start) × ((result.end ≡ end) × (result.failed ≡ false)) }
 {
     Window {
         start,
@@ -41,7 +41,7 @@ pub fn window_of(start: usize, end: usize) -> Window
 
 // What is there of one of which a read failed.
 pub fn failed_at(end: usize, reason: Reason) -> Window
-    ensures { (result.start ≡ 0) × (result.end ≡ end) }
+    ensures { (result.start ≡ 0) × ((result.end ≡ end) × (result.failed ≡ true)) }
 {
     Window {
         start: 0,

@@ -1,7 +1,7 @@
 // Which word of a replay a word is.
 ghost use Rattle.std.specs.Prelude.{◌≡◌};
 ghost use Rattle.replay_options.specs.Words.{shared};
-ghost use Rattle.replay_options.specs.Words.{word_of as Words·wordOf};
+ghost use Rattle.replay_options.specs.Words.{word_of as Words·word_of};
 ghost use Rattle.text.specs.Lent.{given};
 
 use listing_arguments::is;
@@ -35,7 +35,7 @@ fn sorted(word: listing_arguments::Word) -> Word
 }
 
 pub fn word_of(word: &[u8]) -> Word
-    ensures { result ≡ Words·wordOf (given word) }
+    ensures { result ≡ Words·word_of (given word) }
 {
     if is(word, b"--write") {
         return Word::WriteNext;
