@@ -5,7 +5,7 @@ use mathlib.Core.List.{List, [], ◌∷◌, ◌++◌}
 use Prim.Native.Nat.{ℕ, suc, ◌+◌, ◌*◌, ◌<◌, ◌≤◌}
 use native.Mathlib.Omega.{arith}
 use lib.Dec.{leb, leb→le}
-use lib.ListN.{length, length-append, get_or, take, set}
+use lib.ListN.{length, length-append, get_or, take}
 use lib.Seq.{sets, take-suc, length-take-le}
 use Rattle.base.proofs.Lists.{sets-append}
 use Rattle.base.specs.Bytes.{le32}
@@ -30,14 +30,6 @@ pub entries-run : (l xs : List ℕ) (at i : ℕ) → i < length xs
 entries-run l xs at i h =
     let n : length (entries (take i xs)) ≡ 4 * i = length-entries (take i xs) ∙ ap (λ (k : ℕ). 4 * k) (length-take-le i xs (omega arith)) in
     rw (← n, sets-append l at (entries (take i xs)) (le32 (get_or xs i 0)), entries-more xs i h)
-
-pub code-run : (l xs : List ℕ) (at i : ℕ) → i < length xs → set (sets l at (take i xs)) (at + i) (get_or xs i 0) ≡ sets l at (take (i + 1) xs)
-code-run l xs at i h =
-    let e : i + 1 ≡ suc i = omega arith in
-    let n : length (take i xs) ≡ i = length-take-le i xs (omega arith) in
-    let s : sets (sets l at (take i xs)) (at + length (take i xs)) (get_or xs i 0 ∷ []) ≡ sets l at (take i xs ++ (get_or xs i 0 ∷ [])) =
-    sets-append l at (take i xs) (get_or xs i 0 ∷ []) in
-    rw (e, take-suc xs i 0 h) (rw n at s)
 
 pub length-head : (c l f t k m : List ℕ)
     → length (accepted_head (length c) (length l) (length f) (length l + length f + length t + length k + length m)) ≡ 17

@@ -1,11 +1,12 @@
 -- The laws of specs/Stored.antt: one run behind the other, and what is stored in the end.
-use mathlib.Core.Path.{◌≡◌, ◌∙◌}
+use mathlib.Core.Path.{◌≡◌, ◌∙◌, refl}
 use mathlib.Core.Bool.{Bool, true, false}
-use mathlib.Core.List.{List, ◌++◌}
-use Prim.Native.Nat.{ℕ, ◌+◌, ◌≤◌}
+use mathlib.Core.List.{List, ◌++◌, append_assoc}
+use Prim.Native.Nat.{ℕ, ◌+◌, ◌-◌, ◌≤◌}
 use native.Mathlib.Omega.{arith}
-use lib.ListN.{length, length-append}
-use lib.Seq.{sets, length-sets}
+use lib.ListN.{length, length-append, take, drop}
+use lib.Seq.{sets, length-sets, sets-eq, drop-drop}
+use borrow.Rule.Slice.PartMut.{put_mid}
 use Rattle.base.proofs.Lists.{sets-append}
 use Rattle.cases_bytes.specs.Stored.{Put, Stored}
 
@@ -13,6 +14,15 @@ pub behind : {l l₁ l₂ : List ℕ} {at r₁ r₂ : ℕ} {xs ys : List ℕ} �
 behind {l} {l₁} {l₂} {at} {r₁} {r₂} {xs} {ys} p q =
     let e : l₂ ≡ sets (sets l at xs) (at + length xs) ys = rw (← p.bytes, ← p.next) q.bytes in
     record { bytes = e ∙ sets-append l at xs ys; next = omega (arith, p.next, q.next, length-append xs ys) }
+
+-- a part is written over, as long as it is
+pub copied : (l xs ys : List ℕ) (at : ℕ) → at + length xs ≤ length l → ys ≡ xs
+    → Put l (put_mid at (at + length xs - at) l ys) at (at + length xs) xs
+copied l xs ys at h e =
+    let n : at + length xs - at ≡ length xs = omega arith in
+    let s : sets l at xs ≡ take at l ++ (xs ++ drop (at + length xs) l) =
+    sets-eq xs l at h ∙ append_assoc (take at l) xs (drop (at + length xs) l) in
+    record { bytes = rw (e, n, s, drop-drop (length xs) at l); next = refl }
 
 pub same-run : {l l' : List ℕ} {at r : ℕ} {xs ys : List ℕ} → Put l l' at r xs → xs ≡ ys → Put l l' at r ys
 same-run p e = rw e at p

@@ -13,10 +13,10 @@ use Rattle.text.specs.Text.{ascii}
 use Rattle.text.specs.Numerals.{decimal}
 use Rattle.jit.specs.declared.Refusal.{Refusal}
 use Rattle.jit.specs.declared.Refusal.TheVariants.{Torn}
-use Rattle.cases_problems.specs.Problems.{problem_number}
+use Rattle.std.specs.Prelude.{IfOk, IsOk}
 use Rattle.cases_bytes.specs.Stored.{Stored}
 use Rattle.cases_bytes.specs.Answers.{framed, refused_bytes, accepted_bytes, room_for, refused_line, refusal_line}
-use Rattle.cases_bytes.specs.Cases.{lengths_end, ids_in, addresses_at, addresses_in, program_at, program_in, wrong_with, parts_of, no_case, case_of, id_at, address_at, filled}
+use Rattle.cases_bytes.specs.Cases.{lengths_end, ids_in, addresses_at, addresses_in, program_at, program_in, wrong_with, parts_of, case_of, id_at, address_at, filled}
 
 -- a byte of what was put, where it fitted
 byte_at : {l l' ys : List ℕ} {r : ℕ} (fits : Bool) → fits ≡ true → Stored fits l l' r ys → (k : ℕ) → k < length ys → get_or l' k 0 ≡ get_or ys k 0
@@ -89,21 +89,21 @@ small =
     ∷ 149
     ∷ []
 
-pub flag-unseen : (case_of small 512 512).use_mbuff ≡ false → ⊥
-unfolding case_of parts_of no_case wrong_with lengths_end ids_in addresses_at addresses_in program_at program_in
+pub flag-unseen : IfOk (case_of small 512 512) (λ c. c.flags.use_mbuff ≡ false) → ⊥
+unfolding case_of parts_of wrong_with lengths_end ids_in addresses_at addresses_in program_at program_in
 flag-unseen e = let z : ◌≡◌ {A = ℕ} 0 1 = cc in omega arith
 
-pub program-early : (case_of small 512 512).program ≡ 37 → ⊥
-unfolding case_of parts_of no_case wrong_with lengths_end ids_in addresses_at addresses_in program_at program_in
+pub program-early : IfOk (case_of small 512 512) (λ c. c.program ≡ 37) → ⊥
+unfolding case_of parts_of wrong_with lengths_end ids_in addresses_at addresses_in program_at program_in
 program-early e = omega (arith, e)
 
 pub id-backwards : filled (id_at small 21) 1 (0 ∷ []) ≡ (100728832 ∷ []) → ⊥
 unfolding filled
 id-backwards e = omega (arith, ap (λ (t : List ℕ). get_or t 0 0) e)
 
-pub byte-too-many : problem_number (case_of (small ++ (0 ∷ [])) 512 512).problem ≡ 0 → ⊥
-unfolding case_of parts_of no_case wrong_with lengths_end ids_in addresses_at addresses_in program_at program_in
-byte-too-many e = omega (arith, e)
+pub byte-too-many : IsOk (case_of (small ++ (0 ∷ [])) 512 512) → ⊥
+unfolding case_of parts_of wrong_with lengths_end ids_in addresses_at addresses_in program_at program_in
+byte-too-many e = let z : ◌≡◌ {A = ℕ} 0 1 = cc in omega (arith)
 
 -- .. of one that has bit 7 too and says its two further tables: both read as if they were not said; the same flag taken for another
 abbrev pub named : List ℕ
@@ -121,51 +121,51 @@ named =
     ∷ 149
     ∷ []
 
-pub kinds-unread : (case_of named 512 512).kinds ≡ 1 → ⊥
-unfolding case_of parts_of no_case wrong_with lengths_end ids_in addresses_at addresses_in program_at program_in
+pub kinds-unread : IfOk (case_of named 512 512) (λ c. c.kinds ≡ 1) → ⊥
+unfolding case_of parts_of wrong_with lengths_end ids_in addresses_at addresses_in program_at program_in
 kinds-unread e = omega (arith, e)
 
-pub makers-read-as-kinds : (case_of named 512 512).makers ≡ 5 → ⊥
-unfolding case_of parts_of no_case wrong_with lengths_end ids_in addresses_at addresses_in program_at program_in
+pub makers-read-as-kinds : IfOk (case_of named 512 512) (λ c. c.makers ≡ 5) → ⊥
+unfolding case_of parts_of wrong_with lengths_end ids_in addresses_at addresses_in program_at program_in
 makers-read-as-kinds e = omega (arith, e)
 
-pub bit-7-taken-for-bit-1 : (case_of named 512 512).update_data_ptr ≡ true → ⊥
-unfolding case_of parts_of no_case wrong_with lengths_end ids_in addresses_at addresses_in program_at program_in
+pub bit-7-taken-for-bit-1 : IfOk (case_of named 512 512) (λ c. c.flags.update_data_ptr ≡ true) → ⊥
+unfolding case_of parts_of wrong_with lengths_end ids_in addresses_at addresses_in program_at program_in
 bit-7-taken-for-bit-1 e = let z : ◌≡◌ {A = ℕ} 0 1 = cc in omega arith
 
 -- .. of one without it: a further table of no entries
-pub unsaid-empty : (case_of small 512 512).kinds ≡ 0 → ⊥
-unfolding case_of parts_of no_case wrong_with lengths_end ids_in addresses_at addresses_in program_at program_in
+pub unsaid-empty : IfOk (case_of small 512 512) (λ c. c.kinds ≡ 0) → ⊥
+unfolding case_of parts_of wrong_with lengths_end ids_in addresses_at addresses_in program_at program_in
 unsaid-empty e = omega (arith, e)
 
 -- .. of one that has bit 2 alone: it is taken for bit 1; it is not seen
 abbrev pub standard : List ℕ
 standard = 4 ∷ drop 1 small
 
-pub bit-2-taken-for-bit-1 : (case_of standard 512 512).update_data_ptr ≡ true → ⊥
-unfolding case_of parts_of no_case wrong_with lengths_end ids_in addresses_at addresses_in program_at program_in
+pub bit-2-taken-for-bit-1 : IfOk (case_of standard 512 512) (λ c. c.flags.update_data_ptr ≡ true) → ⊥
+unfolding case_of parts_of wrong_with lengths_end ids_in addresses_at addresses_in program_at program_in
 bit-2-taken-for-bit-1 e = let z : ◌≡◌ {A = ℕ} 0 1 = cc in omega arith
 
-pub bit-2-unseen : (case_of standard 512 512).standard ≡ false → ⊥
-unfolding case_of parts_of no_case wrong_with lengths_end ids_in addresses_at addresses_in program_at program_in
+pub bit-2-unseen : IfOk (case_of standard 512 512) (λ c. c.mode.standard ≡ false) → ⊥
+unfolding case_of parts_of wrong_with lengths_end ids_in addresses_at addresses_in program_at program_in
 bit-2-unseen e = let z : ◌≡◌ {A = ℕ} 0 1 = cc in omega arith
 
 -- .. of one that has bit 3 alone: it is taken for bit 2; it is not seen
 abbrev pub compact : List ℕ
 compact = 8 ∷ drop 1 small
 
-pub bit-3-taken-for-bit-2 : (case_of compact 512 512).standard ≡ true → ⊥
-unfolding case_of parts_of no_case wrong_with lengths_end ids_in addresses_at addresses_in program_at program_in
+pub bit-3-taken-for-bit-2 : IfOk (case_of compact 512 512) (λ c. c.mode.standard ≡ true) → ⊥
+unfolding case_of parts_of wrong_with lengths_end ids_in addresses_at addresses_in program_at program_in
 bit-3-taken-for-bit-2 e = let z : ◌≡◌ {A = ℕ} 0 1 = cc in omega arith
 
-pub bit-3-unseen : (case_of compact 512 512).compact ≡ false → ⊥
-unfolding case_of parts_of no_case wrong_with lengths_end ids_in addresses_at addresses_in program_at program_in
+pub bit-3-unseen : IfOk (case_of compact 512 512) (λ c. c.mode.compact ≡ false) → ⊥
+unfolding case_of parts_of wrong_with lengths_end ids_in addresses_at addresses_in program_at program_in
 bit-3-unseen e = let z : ◌≡◌ {A = ℕ} 0 1 = cc in omega arith
 
 -- .. and of one that has bit 4, which no case has: taken for a case
-pub bit-4-let-pass : problem_number (case_of (16 ∷ drop 1 small) 512 512).problem ≡ 0 → ⊥
-unfolding case_of parts_of no_case wrong_with lengths_end ids_in addresses_at addresses_in program_at program_in
-bit-4-let-pass e = omega (arith, e)
+pub bit-4-let-pass : IsOk (case_of (16 ∷ drop 1 small) 512 512) → ⊥
+unfolding case_of parts_of wrong_with lengths_end ids_in addresses_at addresses_in program_at program_in
+bit-4-let-pass e = let z : ◌≡◌ {A = ℕ} 0 1 = cc in omega (arith)
 
 -- number_at and count_at: the highest byte first; one byte alone. address_at: its halves exchanged; the low half alone
 pub number-backwards : le4 (1 ∷ 2 ∷ 3 ∷ 4 ∷ []) 0 ≡ 16909060 → ⊥

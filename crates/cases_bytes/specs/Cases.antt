@@ -1,13 +1,15 @@
 -- A case, taken apart. Its bytes: the flags; the lengths of the page and of the three tables; where bit 7 of the flags says so, those of the
 -- two further tables; how many helper ids, the ids; how many addresses, the addresses; the program's length, the program. Numbers have four
 -- bytes and addresses eight, lowest first.
-use Rattle.std.specs.Prelude.{Bool, false, not, List, [], ◌∷◌, ◌++◌, ℕ, ◌+◌, ◌*◌, ◌-◌, ◌/◌, ◌%◌, ltb, eqb, length, get_or, drop}
+use Rattle.std.specs.Prelude.{Bool, not, Result, Ok, Err, List, [], ◌∷◌, ◌++◌, ℕ, ◌+◌, ◌*◌, ◌-◌, ◌/◌, ◌%◌, ltb, eqb, length, get_or, drop}
 use Rattle.base.specs.Pick.{pick}
 use Rattle.base.specs.Table.{values}
 use Rattle.ebpf.specs.Insn.{le4}
-use Rattle.cases_problems.specs.Problems.{problem_number}
+use Rattle.std.specs.Result.{result_and}
+use Rattle.jit.specs.declared.Flags.{Flags}
+use Rattle.jit.specs.declared.Mode.{Mode}
 use Rattle.cases_problems.specs.declared.Problem.{Problem}
-use Rattle.cases_problems.specs.declared.Problem.TheVariants.{Nothing, OtherFlags, ManyIds, ManyAddresses, LongProgram, Unfilled}
+use Rattle.cases_problems.specs.declared.Problem.TheVariants.{OtherFlags, ManyIds, ManyAddresses, LongProgram, Unfilled}
 use Rattle.cases_bytes.specs.Limits.{longest_of_case}
 use Rattle.cases_bytes.specs.declared.parts.Case.{Case}
 
@@ -36,9 +38,9 @@ pub data Check : Type 0 where
   ◌⊘◌ : Bool → Problem → Check
 
 infix 90 ◌⊘◌
-abbrev pub first_of : List Check → Problem
-first_of [] = Nothing
-first_of (t ⊘ p ∷ r) = pick t p (first_of r)
+abbrev pub first_of : List Check → Result (Unit {0}) Problem
+first_of [] = Ok tt
+first_of (t ⊘ p ∷ r) = pick t (Err p) (first_of r)
 
 -- the parts have to fill the body, and the helpers to fit what is there for them
 abbrev pub checks : List ℕ → ℕ → ℕ → List Check
@@ -54,7 +56,7 @@ checks b most_ids most_addresses =
     ∷ not (eqb (length b - program_at b) (program_in b)) ⊘ Unfilled
     ∷ []
 
-unfoldable pub wrong_with : List ℕ → ℕ → ℕ → Problem
+unfoldable pub wrong_with : List ℕ → ℕ → ℕ → Result (Unit {0}) Problem
 wrong_with b most_ids most_addresses = first_of (checks b most_ids most_addresses)
 
 -- the length of a further table. Without bit 7 it has an entry for each slot of the program, and one, so that it is not what is refused
@@ -66,11 +68,8 @@ unsaid b = (length b - program_at b) / 8 + 1
 
 unfoldable pub parts_of : List ℕ → Case
 parts_of b = record {
-  problem = Nothing;
-  use_mbuff = eqb (get_or b 0 0 % 2) 1;
-  update_data_ptr = eqb (get_or b 0 0 / 2 % 2) 1;
-  standard = eqb (get_or b 0 0 / 4 % 2) 1;
-  compact = eqb (get_or b 0 0 / 8 % 2) 1;
+  flags = record { use_mbuff = eqb (get_or b 0 0 % 2) 1; update_data_ptr = eqb (get_or b 0 0 / 2 % 2) 1 };
+  mode = record { standard = eqb (get_or b 0 0 / 4 % 2) 1; compact = eqb (get_or b 0 0 / 8 % 2) 1 };
   named = eqb (get_or b 0 0 / 128) 1;
   code = le4 b 1;
   locations = le4 b 5;
@@ -83,28 +82,9 @@ parts_of b = record {
   program = program_at b;
 }
 
-unfoldable pub no_case : Problem → Case
-no_case p = record {
-  problem = p;
-  use_mbuff = false;
-  update_data_ptr = false;
-  standard = false;
-  compact = false;
-  named = false;
-  code = 0;
-  locations = 0;
-  fields = 0;
-  targets = 0;
-  kinds = 0;
-  makers = 0;
-  ids = 0;
-  addresses = 0;
-  program = 0;
-}
-
-unfoldable pub case_of : List ℕ → ℕ → ℕ → Case
-case_of b most_ids most_addresses =
-    pick (eqb (problem_number (wrong_with b most_ids most_addresses)) 0) (parts_of b) (no_case (wrong_with b most_ids most_addresses))
+-- the case, or the first thing that is wrong with it
+unfoldable pub case_of : List ℕ → ℕ → ℕ → Result Case Problem
+case_of b most_ids most_addresses = result_and (wrong_with b most_ids most_addresses) (Ok (parts_of b))
 
 -- the helpers: the ids and the addresses, each from their place on
 abbrev pub id_at : List ℕ → ℕ → ℕ → ℕ

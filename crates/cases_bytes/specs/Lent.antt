@@ -1,12 +1,13 @@
 -- What the contracts say of the parameters by their names (base/specs/Lent.antt): the records and definitions of Stored.antt, Answers.antt
 -- and Cases.antt, each under its own name.
-use Rattle.std.specs.Prelude.{◌≡◌, Bool, List, ℕ, ◌+◌, ◌*◌, ◌≤◌, length}
+use Rattle.std.specs.Prelude.{◌≡◌, Bool, List, ℕ, ◌+◌, ◌*◌, ◌≤◌, length, Result}
 use Rattle.base.specs.Lent.{Slice, Lent, MutLent, seen}
 use Rattle.ebpf.specs.Insn.{le4}
 use Rattle.cases_problems.specs.declared.Problem.{Problem}
 use Rattle.cases_bytes.specs.Stored as S
 use Rattle.cases_bytes.specs.Answers as A
 use Rattle.cases_bytes.specs.Cases as C
+use Rattle.cases_bytes.specs.declared.answer.Translation.{Translation}
 use Rattle.cases_bytes.specs.declared.parts.Case.{Case}
 
 -- what a slice held when it was lent
@@ -34,16 +35,29 @@ Stored fits out r ys = S.Stored fits (held (seen out)) out.exit.now r ys
 abbrev pub refused_fits : MutLent → Bool
 refused_fits out = A.refused_fits (held (seen out))
 
-abbrev pub accepted_fits : (out : MutLent) (code locations fields targets kinds makers : Lent) → Bool
-accepted_fits out code locations fields targets kinds makers =
-    A.room_for (length_of (seen out)) (length_of code) (length_of locations) (length_of fields) (length_of targets) (length_of kinds) (length_of makers)
+-- .. of a translation: whether there is room for it, how many entries its tables have together, the tables, and all of it
+abbrev pub has_room : (out : ℕ) → Translation → Bool
+has_room out of =
+    A.room_for
+    out
+    (length of.code.now)
+    (length of.locations.now)
+    (length of.fields.now)
+    (length of.targets.now)
+    (length of.kinds.now)
+    (length of.makers.now)
 
-abbrev pub tables : (locations fields targets kinds makers : Lent) → List ℕ
-tables locations fields targets kinds makers = A.tables (held locations) (held fields) (held targets) (held kinds) (held makers)
+abbrev pub accepted_fits : MutLent → Translation → Bool
+accepted_fits out of = has_room (length_of (seen out)) of
 
-abbrev pub accepted_bytes : (code locations fields targets kinds makers : Lent) → List ℕ
-accepted_bytes code locations fields targets kinds makers =
-    A.accepted_bytes (held code) (held locations) (held fields) (held targets) (held kinds) (held makers)
+abbrev pub entries_in : Translation → ℕ
+entries_in of = length of.locations.now + length of.fields.now + length of.targets.now + length of.kinds.now + length of.makers.now
+
+abbrev pub tables_of : Translation → List ℕ
+tables_of of = A.tables of.locations.now of.fields.now of.targets.now of.kinds.now of.makers.now
+
+abbrev pub accepted_bytes : Translation → List ℕ
+accepted_bytes of = A.accepted_bytes of.code.now of.locations.now of.fields.now of.targets.now of.kinds.now of.makers.now
 
 -- where the lengths of a case end, and the length of a further table
 abbrev pub lengths_end : Lent → ℕ
@@ -53,10 +67,10 @@ abbrev pub further : Lent → (at unsaid : ℕ) → ℕ
 further body at unsaid = C.further (held body) at unsaid
 
 -- the case in a body, where `ids` and `addresses` are there for its helpers, and what is wrong with it
-abbrev pub case_of : (body : Lent) (ids addresses : MutLent) → Case
+abbrev pub case_of : (body : Lent) (ids addresses : MutLent) → Result Case Problem
 case_of body ids addresses = C.case_of (held body) (length_of (seen ids)) (length_of (seen addresses))
 
-abbrev pub wrong_with : Lent → (most_ids most_addresses : ℕ) → Problem
+abbrev pub wrong_with : Lent → (most_ids most_addresses : ℕ) → Result (Unit {0}) Problem
 wrong_with body most_ids most_addresses = C.wrong_with (held body) most_ids most_addresses
 
 abbrev pub parts_of : Lent → Case

@@ -1,8 +1,8 @@
 // The bytes of an answer, and the line that tells a refusal.
 ghost use Rattle.std.specs.Prelude.{◌≡◌, ◌+◌, ◌*◌, ◌≤◌, min, length};
 ghost use Rattle.text.specs.Lent.{Says};
-ghost use Rattle.cases_bytes.specs.Lent.{held, Put, Stored, refused_fits, accepted_fits, tables, accepted_bytes};
-ghost use Rattle.cases_bytes.specs.Answers.{refused_bytes, entries, accepted_head, room_for, refused_line, refusal_line};
+ghost use Rattle.cases_bytes.specs.Lent.{held, Put, Stored, refused_fits, accepted_fits, has_room, entries_in, tables_of, accepted_bytes};
+ghost use Rattle.cases_bytes.specs.Answers.{refused_bytes, entries, accepted_head, refused_line, refusal_line};
 ghost use Rattle.cases_bytes.specs.Limits.{lent_page, lent_table};
 
 use crate::{limits, numbers};
@@ -31,12 +31,10 @@ fn put_table(out: &mut [u8], at: usize, table: &[u32]) -> usize
     requires { at + 4 * length table.now ≤ length out.old }
     ensures { Put out at result (entries (held table)) }
 {
-    let mut i = 0;
-    while i < table.len() {
-        numbers::put_number(out, at + 4 * i, table[i]);
-        i += 1;
+    for (i, entry) in table.iter().enumerate() {
+        numbers::put_number(out, at + 4 * i, *entry);
     }
-    at + 4 * i
+    at + 4 * table.len()
 }
 
 // The code, and the next place.
@@ -44,23 +42,16 @@ fn put_code(out: &mut [u8], at: usize, code: &[u8]) -> usize
     requires { at + length code.now ≤ length out.old }
     ensures { Put out at result (held code) }
 {
-    let mut i = 0;
-    while i < code.len() {
-        numbers::put_byte(out, at + i, code[i]);
-        i += 1;
-    }
-    at + i
+    let end = at + code.len();
+    out[at..end].copy_from_slice(code);
+    end
 }
 
 // A slot's number in the answer's four bytes. No program has a slot that does not fit.
 fn slot_number(x: usize) -> u32
     ensures { result ≡ min x 4294967295 }
 {
-    if x <= 4294967295 {
-        x as u32
-    } else {
-        4294967295
-    }
+    u32::try_from(x).unwrap_or(u32::MAX)
 }
 
 // A refusal: its number and its slot. Answers how many bytes it is, or 0 where they do not fit.
@@ -89,87 +80,67 @@ fn put_lengths(out: &mut [u8], code: usize, ends: usize, jumps: usize, all: usiz
     numbers::put_number(out, d, ends as u32)
 }
 
-// Whether there is room for the longest answer, and no part is longer than what is lent at most; all by their lengths.
-fn is_room(
-    out: usize,
-    code: usize,
-    locations: usize,
-    fields: usize,
-    targets: usize,
-    kinds: usize,
-    makers: usize,
-) -> bool
-    ensures { result ≡ room_for out code locations fields targets kinds makers }
+// What a translation writes that is shown, each part just as long as it is: the kinds and makers of all jumps, or none.
+#[derive(Clone, Copy)]
+pub struct Translation<'a> {
+    pub code: &'a [u8],
+    pub locations: &'a [u32],
+    pub fields: &'a [u32],
+    pub targets: &'a [u32],
+    pub kinds: &'a [u32],
+    pub makers: &'a [u32],
+}
+
+// Whether there is room for the longest answer, and no part is longer than what is lent at most.
+fn is_room(out: usize, of: Translation) -> bool
+    ensures { result ≡ has_room out of.entry }
 {
     if out < limits::ANSWER {
         return false;
     }
-    if limits::PAGE < code {
+    if limits::PAGE < of.code.len() {
         return false;
     }
-    if limits::TABLE < locations {
+    if limits::TABLE < of.locations.len() {
         return false;
     }
-    if limits::TABLE < fields {
+    if limits::TABLE < of.fields.len() {
         return false;
     }
-    if limits::TABLE < targets {
+    if limits::TABLE < of.targets.len() {
         return false;
     }
-    if limits::TABLE < kinds {
+    if limits::TABLE < of.kinds.len() {
         return false;
     }
-    makers <= limits::TABLE
+    of.makers.len() <= limits::TABLE
 }
 
 // The tables, one behind the other, and the next place.
-fn put_tables(
-    out: &mut [u8],
-    at: usize,
-    locations: &[u32],
-    fields: &[u32],
-    targets: &[u32],
-    kinds: &[u32],
-    makers: &[u32],
-) -> usize
-    requires { at + 4 * (length locations.now + length fields.now + length targets.now + length kinds.now + length makers.now)
-        ≤ length out.old }
-    ensures { Put out at result (tables locations fields targets kinds makers) }
+fn put_tables(out: &mut [u8], at: usize, of: Translation) -> usize
+    requires { at + 4 * entries_in of ≤ length out.old }
+    ensures { Put out at result (tables_of of.entry) }
 {
-    let a = put_table(out, at, locations);
-    let b = put_table(out, a, fields);
-    let c = put_table(out, b, targets);
-    let d = put_table(out, c, kinds);
-    put_table(out, d, makers)
+    let a = put_table(out, at, of.locations);
+    let b = put_table(out, a, of.fields);
+    let c = put_table(out, b, of.targets);
+    let d = put_table(out, c, of.kinds);
+    put_table(out, d, of.makers)
 }
 
-// A translation: just the code, locations, jump fields and jump targets that belong to it, and the kinds and makers, or none of those. Answers
-// how many bytes it is, or 0 where they do not fit.
-pub fn put_accepted(
-    out: &mut [u8],
-    code: &[u8],
-    locations: &[u32],
-    fields: &[u32],
-    targets: &[u32],
-    kinds: &[u32],
-    makers: &[u32],
-) -> usize
-    ensures { Stored (accepted_fits out code locations fields targets kinds makers) out result
-        (accepted_bytes code locations fields targets kinds makers) }
+// A translation. Answers how many bytes it is, or 0 where they do not fit.
+pub fn put_accepted(out: &mut [u8], of: Translation) -> usize
+    ensures { Stored (accepted_fits out of.entry) out result (accepted_bytes of.entry) }
 {
-    if !is_room(
-        out.len(),
-        code.len(),
-        locations.len(),
-        fields.len(),
-        targets.len(),
-        kinds.len(),
-        makers.len(),
-    ) {
+    if !is_room(out.len(), of) {
         return 0;
     }
-    let all = locations.len() + fields.len() + targets.len() + kinds.len() + makers.len();
-    let counted = put_lengths(out, code.len(), locations.len(), fields.len(), all);
-    let at = put_code(out, counted, code);
-    put_tables(out, at, locations, fields, targets, kinds, makers)
+    let all = of.locations.len()
+        + of.fields.len()
+        + of.targets.len()
+        + of.kinds.len()
+        + of.makers.len();
+    let counted = put_lengths(out, of.code.len(), of.locations.len(), of.fields.len(), all);
+    let at = put_code(out, counted, of.code);
+    put_tables(out, at, of)
 }

@@ -6,6 +6,7 @@
 pub mod answer;
 pub mod limits;
 pub mod numbers;
+pub mod output;
 pub mod parts;
 pub mod stream;
 pub mod turn;

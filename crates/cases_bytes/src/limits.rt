@@ -1,6 +1,4 @@
 // How much a case may hold and how much is lent. One place more than the translator takes stands for every longer page and table.
-ghost use Rattle.std.specs.Prelude.{◌≡◌, min};
-
 use jit::LONGEST_PAGE;
 
 // Bytes of code and entries of a table that are lent at most.
@@ -17,10 +15,3 @@ pub const CASE: usize = 37 + 12 * HELPERS + PROGRAM;
 
 // No answer is longer: 17 bytes in front, the page and five tables.
 pub const ANSWER: usize = 17 + PAGE + 20 * TABLE;
-
-// How much is lent of what is asked for: at most what there is.
-pub fn least(asked: usize, most: usize) -> usize
-    ensures { result ≡ min asked most }
-{
-    if asked < most { asked } else { most }
-}

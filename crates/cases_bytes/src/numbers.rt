@@ -3,22 +3,11 @@ ghost use Rattle.std.specs.Prelude.{◌≡◌, [], ◌∷◌, ◌+◌, ◌≤◌
 ghost use Rattle.base.specs.Bytes.{le32};
 ghost use Rattle.cases_bytes.specs.Lent.{number_at, wide_at, Put};
 
-// The value of a byte in a wider number.
-pub fn wide(x: u8) -> u32
-    ensures { (result ≡ x) × (result < 256) }
-{
-    x as u32
-}
-
 pub fn number_at(s: &[u8], at: usize) -> u32
     requires { at + 4 ≤ length s.now }
     ensures { result ≡ number_at s at }
 {
-    let b0 = wide(s[at]);
-    let b1 = wide(s[at + 1]);
-    let b2 = wide(s[at + 2]);
-    let b3 = wide(s[at + 3]);
-    b0 + 256 * b1 + 65536 * b2 + 16777216 * b3
+    u32::from_le_bytes([s[at], s[at + 1], s[at + 2], s[at + 3]])
 }
 
 // The same as a number of things.
@@ -33,9 +22,7 @@ pub fn address_at(s: &[u8], at: usize) -> u64
     requires { at + 8 ≤ length s.now }
     ensures { result ≡ wide_at s at }
 {
-    let low = number_at(s, at) as u64;
-    let high = number_at(s, at + 4) as u64;
-    low + 4294967296 * high
+    u64::from(number_at(s, at)) + 4294967296 * u64::from(number_at(s, at + 4))
 }
 
 // Puts a byte at a place, and answers the next place.

@@ -3,13 +3,12 @@ use Rattle.std.specs.Prelude.{List, [], ◌∷◌, ◌++◌, ℕ}
 use Rattle.text.specs.Text.{ascii}
 use Rattle.text.specs.Numerals.{decimal}
 use Rattle.cases_problems.specs.declared.Problem.{Problem}
-use Rattle.cases_problems.specs.declared.Problem.TheVariants.{Nothing, End, Unreadable, Torn, TooLong}
+use Rattle.cases_problems.specs.declared.Problem.TheVariants.{End, Unreadable, Torn, TooLong}
 use Rattle.cases_problems.specs.declared.Problem.TheVariants.{OtherFlags, ManyIds, ManyAddresses, LongProgram, Unfilled}
 use Rattle.cases_problems.specs.declared.Problem.TheVariants.{WrongLengths, NoRoom}
 use Rattle.cases_problems.specs.declared.Problem.TheVariants.{PageChanged, LocationsChanged, FieldsChanged, TargetsChanged, KindsChanged, MakersChanged}
 
 abbrev pub problem_number : Problem → ℕ
-problem_number Nothing = 0
 problem_number End = 1
 problem_number Unreadable = 2
 problem_number Torn = 3
@@ -32,7 +31,6 @@ abbrev pub changed_of : List ℕ → List ℕ
 changed_of what = ascii ": the translator changed the " ++ (what ++ ascii " where it may not")
 
 abbrev pub why_of : Problem → List ℕ
-why_of Nothing = ascii ": nothing is wrong with it"
 why_of End = ascii " is not there: the stream has ended"
 why_of Unreadable = ascii " cannot be read"
 why_of Torn = ascii " is malformed: the stream ends inside it"

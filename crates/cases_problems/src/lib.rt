@@ -2,17 +2,18 @@
 
 #![tactic(auto)]
 
-ghost use Rattle.std.specs.Prelude.{◌≡◌, min, eqb, length};
+ghost use Rattle.std.specs.Prelude.{◌≡◌, min, length};
 ghost use Rattle.text.specs.Lent.{Says};
 ghost use Rattle.cases_problems.specs.Problems.{problem_number, why_of};
 ghost use Rattle.cases_problems.specs.Lent.{changed_of, report_of};
+ghost use Rattle.cases_problems.specs.declared.Problem.TheVariants.{Unreadable};
 
+use streams::Reason;
 use text::number::put_decimal;
 use text::text::{put_byte, put_text};
 
-#[derive(Clone, Copy)]
+#[derive(Clone, Copy, PartialEq, Eq)]
 pub enum Problem {
-    Nothing,
     // The stream is over, between two records.
     End,
     // The stream.
@@ -37,11 +38,19 @@ pub enum Problem {
     NoRoom,
 }
 
+// A read that failed.
+impl From<Reason> for Problem {
+    ghost from_gives = { λ _ problem. problem ≡ Unreadable };
+
+    fn from(_reason: Reason) -> Problem {
+        Problem::Unreadable
+    }
+}
+
 pub fn number_of(problem: Problem) -> u8
     ensures { result ≡ problem_number problem }
 {
     match problem {
-        Problem::Nothing => 0,
         Problem::End => 1,
         Problem::Unreadable => 2,
         Problem::Torn => 3,
@@ -62,18 +71,6 @@ pub fn number_of(problem: Problem) -> u8
     }
 }
 
-pub fn is_nothing(problem: Problem) -> bool
-    ensures { result ≡ eqb (problem_number problem) 0 }
-{
-    number_of(problem) == 0
-}
-
-pub fn is_end(problem: Problem) -> bool
-    ensures { result ≡ eqb (problem_number problem) 1 }
-{
-    number_of(problem) == 1
-}
-
 fn put_changed(out: &mut [u8], at: usize, what: &[u8]) -> usize
     ensures { Says out at result (changed_of what) }
 {
@@ -86,7 +83,6 @@ fn put_why(out: &mut [u8], at: usize, problem: Problem) -> usize
     ensures { Says out at result (why_of problem) }
 {
     match problem {
-        Problem::Nothing => put_text(out, at, b": nothing is wrong with it"),
         Problem::End => put_text(out, at, b" is not there: the stream has ended"),
         Problem::Unreadable => put_text(out, at, b" cannot be read"),
         Problem::Torn => put_text(out, at, b" is malformed: the stream ends inside it"),

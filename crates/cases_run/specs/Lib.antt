@@ -1,2 +1,3 @@
 -- What the contracts of the crate cite.
 pub mod Marks
+pub mod Lent

@@ -7,5 +7,5 @@ mark_at i = i % 251 + 5
 abbrev pub table_mark_at : ℕ → ℕ
 table_mark_at i = 2779054080 + i % 65536
 
-abbrev pub Marked : (ℕ → ℕ) → ℕ → List ℕ → Type 0
-Marked mark from l = (k : ℕ) → from ≤ k → k < length l → get_or l k 0 ≡ mark k
+abbrev pub Marked : {A : Type 0} → (ℕ → A) → ℕ → List A → Type 0
+Marked {A} mark from l = (k : ℕ) (d : A) → from ≤ k → k < length l → get_or l k d ≡ mark k

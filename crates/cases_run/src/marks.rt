@@ -1,85 +1,60 @@
 // The pattern that what is lent holds before a case, and the look afterwards whether it is still there. Each place has a mark of its
 // own, so that a piece of the page that was moved is seen too.
-ghost use Rattle.std.specs.Prelude.{◌≡◌, true, ◌<◌};
+ghost use Rattle.std.specs.Prelude.{◌≡◌, ℕ, true};
 ghost use Rattle.cases_run.specs.Marks.{mark_at, table_mark_at, Marked};
 
-fn mark(i: usize) -> u8
-    ensures { result ≡ mark_at i }
-{
-    (i % 251 + 5) as u8
+// What a page or a table holds, which has a mark for each place.
+pub trait Mark: Copy {
+    ghost mark_of: { ℕ → Self };
+
+    fn mark(place: usize) -> Self
+        ensures { result ≡ mark_of place };
+
+    fn is_mark(self, place: usize) -> bool
+        ensures { result ≡ true → self ≡ mark_of place };
+}
+
+impl Mark for u8 {
+    ghost mark_of = { mark_at };
+
+    fn mark(place: usize) -> u8 {
+        (place % 251 + 5) as u8
+    }
+
+    fn is_mark(self, place: usize) -> bool {
+        self == u8::mark(place)
+    }
 }
 
 // Above every entry of an accepted case.
-fn table_mark(i: usize) -> u32
-    ensures { result ≡ table_mark_at i }
-{
-    2779054080 + (i % 65536) as u32
-}
+impl Mark for u32 {
+    ghost mark_of = { table_mark_at };
 
-pub fn mark_page(page: &mut [u8])
-    ensures { Marked mark_at 0 page.new }
-{
-    let mut i = 0;
-    while i < page.len() {
-        page[i] = mark(i);
-        i += 1;
+    fn mark(place: usize) -> u32 {
+        2779054080 + (place % 65536) as u32
+    }
+
+    fn is_mark(self, place: usize) -> bool {
+        self == u32::mark(place)
     }
 }
 
-pub fn mark_table(table: &mut [u32])
-    ensures { Marked table_mark_at 0 table.new }
+pub fn mark_all<T: Mark>(places: &mut [T])
+    ensures { Marked T.mark_of 0 places.new }
 {
-    let mut i = 0;
-    while i < table.len() {
-        table[i] = table_mark(i);
-        i += 1;
+    for (i, place) in places.iter_mut().enumerate() {
+        *place = T::mark(i);
     }
-}
-
-// All that is lent, before the first case.
-pub fn mark_lent(
-    page: &mut [u8],
-    locations: &mut [u32],
-    fields: &mut [u32],
-    targets: &mut [u32],
-    kinds: &mut [u32],
-    makers: &mut [u32],
-)
-    ensures marked { (Marked mark_at 0 page.new) × (Marked table_mark_at 0 locations.new) }
-    ensures marked_2 { (Marked table_mark_at 0 fields.new) × (Marked table_mark_at 0 targets.new) }
-    ensures marked_3 { (Marked table_mark_at 0 kinds.new) × (Marked table_mark_at 0 makers.new) }
-{
-    mark_page(page);
-    mark_table(locations);
-    mark_table(fields);
-    mark_table(targets);
-    mark_table(kinds);
-    mark_table(makers);
 }
 
 // Whether everything from a place on is marked.
-pub fn page_kept(page: &[u8], from: usize) -> bool
-    ensures { result ≡ true → Marked mark_at from page.now }
+pub fn is_kept<T: Mark>(places: &[T], from: usize) -> bool
+    ensures { result ≡ true → Marked T.mark_of from places.now }
 {
-    let mut i = from;
-    while i < page.len() {
-        if page[i] != mark(i) {
+    for i in from..places.len() {
+        if !places[i].is_mark(i) {
             return false;
         }
-        i += 1;
-    }
-    true
-}
-
-pub fn table_kept(table: &[u32], from: usize) -> bool
-    ensures { result ≡ true → Marked table_mark_at from table.now }
-{
-    let mut i = from;
-    while i < table.len() {
-        if table[i] != table_mark(i) {
-            return false;
-        }
-        i += 1;
     }
     true
 }

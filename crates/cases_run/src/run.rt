@@ -1,124 +1,138 @@
 // A case, run: what it asks for is lent, the answer is put together, and what was lent is looked over and marked again.
-ghost use Rattle.std.specs.Prelude.{◌≡◌, true, ◌≤◌, length};
-ghost use Rattle.cases_bytes.specs.Lent.{Inside};
+ghost use Rattle.std.specs.Prelude.{◌≡◌, true, ◌≤◌, length, IfOk};
+ghost use Rattle.cases_run.specs.Marks.{mark_at, table_mark_at, Marked};
+ghost use Rattle.cases_run.specs.Lent.{Holds};
 
-use crate::marks;
-use cases_bytes::limits::least;
-use cases_bytes::parts::Case;
-use cases_bytes::{answer, limits, parts, stream};
+use crate::marks::{is_kept, mark_all};
+use cases_bytes::answer::{Translation, put_accepted, put_refused};
+use cases_bytes::limits::{CASE, HELPERS};
+use cases_bytes::parts::{Case, take_apart};
+use cases_bytes::stream::{Window, next_record};
 use cases_problems::Problem;
-use jit::{Flags, Mode, Refusal};
-use jit_translate::translate::{Answer, translate};
+use jit::Refusal;
+use jit_translate::translate::{Accepted, translate};
 use streams::Source;
 
-// How many bytes the answer is; 0 where there is a problem.
+// What is lent, whole: it is marked before a case, and marked again afterwards where there is no problem.
+#[derive(Drop)]
+pub struct Lent<'a> {
+    pub code: &'a mut [u8],
+    pub locations: &'a mut [u32],
+    pub fields: &'a mut [u32],
+    pub targets: &'a mut [u32],
+    pub kinds: &'a mut [u32],
+    pub makers: &'a mut [u32],
+}
+
+// What the translator answers that it wrote: bytes of code, locations, and jumps.
 #[derive(Clone, Copy)]
-pub struct Reply {
-    pub problem: Problem,
-    pub size: usize,
+struct Written {
+    code: usize,
+    locations: usize,
+    jumps: usize,
 }
 
-fn no_reply(problem: Problem) -> Reply
-    ensures { result.size ≡ 0 }
-{
-    Reply { problem, size: 0 }
+const NOTHING: Written = Written {
+    code: 0,
+    locations: 0,
+    jumps: 0,
+};
+
+impl Lent<'_> {
+    // All of it, before the first case.
+    pub fn mark(&mut self)
+        ensures marked { (Marked mark_at 0 self.new.code.now) × (Marked table_mark_at 0 self.new.locations.now) }
+        ensures marked_2 { (Marked table_mark_at 0 self.new.fields.now) × (Marked table_mark_at 0 self.new.targets.now) }
+        ensures marked_3 { (Marked table_mark_at 0 self.new.kinds.now) × (Marked table_mark_at 0 self.new.makers.now) }
+    {
+        mark_all(self.code);
+        mark_all(self.locations);
+        mark_all(self.fields);
+        mark_all(self.targets);
+        mark_all(self.kinds);
+        mark_all(self.makers);
+    }
+
+    // Whether there is room for all that was written.
+    fn holds(&self, written: Written) -> bool
+        ensures { result ≡ true → Holds self.now written.code written.locations written.jumps }
+    {
+        written.code <= self.code.len()
+            && written.locations <= self.locations.len()
+            && written.jumps <= self.fields.len()
+            && written.jumps <= self.targets.len()
+            && written.jumps <= self.kinds.len()
+            && written.jumps <= self.makers.len()
+    }
+
+    // What has changed behind what was written.
+    fn looked_over(&self, written: Written) -> Result<(), Problem> {
+        if !is_kept(self.code, written.code) {
+            return Err(Problem::PageChanged);
+        }
+        if !is_kept(self.locations, written.locations) {
+            return Err(Problem::LocationsChanged);
+        }
+        if !is_kept(self.fields, written.jumps) {
+            return Err(Problem::FieldsChanged);
+        }
+        if !is_kept(self.targets, written.jumps) {
+            return Err(Problem::TargetsChanged);
+        }
+        if !is_kept(self.kinds, written.jumps) {
+            return Err(Problem::KindsChanged);
+        }
+        if !is_kept(self.makers, written.jumps) {
+            return Err(Problem::MakersChanged);
+        }
+        Ok(())
+    }
+
+    // The answer; of the kinds and makers it has `shown`.
+    fn put(&self, written: Written, shown: usize, out: &mut [u8]) -> usize
+        requires { (shown ≤ written.jumps) × Holds self.now written.code written.locations written.jumps }
+        ensures { result ≤ length out.new }
+    {
+        put_accepted(
+            out,
+            Translation {
+                code: &self.code[..written.code],
+                locations: &self.locations[..written.locations],
+                fields: &self.fields[..written.jumps],
+                targets: &self.targets[..written.jumps],
+                kinds: &self.kinds[..shown],
+                makers: &self.makers[..shown],
+            },
+        )
+    }
+
+    fn mark_written(&mut self, written: Written)
+        requires { Holds self.old written.code written.locations written.jumps }
+    {
+        mark_all(&mut self.code[..written.code]);
+        mark_all(&mut self.locations[..written.locations]);
+        mark_all(&mut self.fields[..written.jumps]);
+        mark_all(&mut self.targets[..written.jumps]);
+        mark_all(&mut self.kinds[..written.jumps]);
+        mark_all(&mut self.makers[..written.jumps]);
+    }
 }
 
-fn reply_of(size: usize) -> Reply
-    ensures { result.size ≡ size }
+// How many bytes an answer has that was put; none where there was no room for it.
+fn reply_of(size: usize) -> Result<usize, Problem>
+    ensures { IfOk result (λ bytes. bytes ≡ size) }
 {
     if size == 0 {
-        return no_reply(Problem::NoRoom);
+        return Err(Problem::NoRoom);
     }
-    Reply {
-        problem: Problem::Nothing,
-        size,
-    }
+    Ok(size)
 }
 
-// What has changed behind the first `end` bytes, `ends` locations and `jumps` jumps.
-fn changed(
-    code: &[u8],
-    end: usize,
-    locations: &[u32],
-    ends: usize,
-    fields: &[u32],
-    targets: &[u32],
-    kinds: &[u32],
-    makers: &[u32],
-    jumps: usize,
-) -> Problem {
-    if !marks::page_kept(code, end) {
-        return Problem::PageChanged;
-    }
-    if !marks::table_kept(locations, ends) {
-        return Problem::LocationsChanged;
-    }
-    if !marks::table_kept(fields, jumps) {
-        return Problem::FieldsChanged;
-    }
-    if !marks::table_kept(targets, jumps) {
-        return Problem::TargetsChanged;
-    }
-    if !marks::table_kept(kinds, jumps) {
-        return Problem::KindsChanged;
-    }
-    if !marks::table_kept(makers, jumps) {
-        return Problem::MakersChanged;
-    }
-    Problem::Nothing
-}
-
-fn refused(
-    refusal: Refusal,
-    code: &[u8],
-    locations: &[u32],
-    fields: &[u32],
-    targets: &[u32],
-    kinds: &[u32],
-    makers: &[u32],
-    out: &mut [u8],
-) -> Reply
-    ensures { result.size ≤ length out.new }
+fn refused(refusal: Refusal, lent: &Lent, out: &mut [u8]) -> Result<usize, Problem>
+    ensures { IfOk result (λ size. size ≤ length out.new) }
 {
-    let wrong = changed(code, 0, locations, 0, fields, targets, kinds, makers, 0);
-    if !cases_problems::is_nothing(wrong) {
-        return no_reply(wrong);
-    }
-    reply_of(answer::put_refused(out, refusal))
-}
-
-// Whether an answer is within what was lent: `end` bytes, `ends` locations and `jumps` jumps.
-fn is_within(
-    code: usize,
-    end: usize,
-    locations: usize,
-    ends: usize,
-    fields: usize,
-    targets: usize,
-    kinds: usize,
-    makers: usize,
-    jumps: usize,
-) -> bool
-    ensures { result ≡ true → (end ≤ code) × ((ends ≤ locations)
-        × ((jumps ≤ fields) × ((jumps ≤ targets) × ((jumps ≤ kinds) × (jumps ≤ makers))))) }
-{
-    if code < end {
-        return false;
-    }
-    if locations < ends {
-        return false;
-    }
-    if fields < jumps {
-        return false;
-    }
-    if targets < jumps {
-        return false;
-    }
-    if kinds < jumps {
-        return false;
-    }
-    jumps <= makers
+    lent.looked_over(NOTHING)?;
+    reply_of(put_refused(out, refusal))
 }
 
 // How many kinds and makers an answer shows: those of all jumps, or none.
@@ -129,57 +143,19 @@ fn shown_of(named: bool, jumps: usize) -> usize
 }
 
 fn accepted(
-    code: &mut [u8],
-    end: usize,
-    locations: &mut [u32],
-    ends: usize,
-    fields: &mut [u32],
-    targets: &mut [u32],
-    kinds: &mut [u32],
-    makers: &mut [u32],
-    jumps: usize,
+    written: Written,
     named: bool,
+    lent: &mut Lent,
     out: &mut [u8],
-) -> Reply
-    ensures { result.size ≤ length out.new }
+) -> Result<usize, Problem>
+    ensures { IfOk result (λ size. size ≤ length out.new) }
 {
-    if !is_within(
-        code.len(),
-        end,
-        locations.len(),
-        ends,
-        fields.len(),
-        targets.len(),
-        kinds.len(),
-        makers.len(),
-        jumps,
-    ) {
-        return no_reply(Problem::WrongLengths);
+    if !lent.holds(written) {
+        return Err(Problem::WrongLengths);
     }
-    let wrong = changed(
-        code, end, locations, ends, fields, targets, kinds, makers, jumps,
-    );
-    if !cases_problems::is_nothing(wrong) {
-        return no_reply(wrong);
-    }
-    let shown = shown_of(named, jumps);
-    let size = answer::put_accepted(
-        out,
-        &code[..end],
-        &locations[..ends],
-        &fields[..jumps],
-        &targets[..jumps],
-        &kinds[..shown],
-        &makers[..shown],
-    );
-    marks::mark_lent(
-        &mut code[..end],
-        &mut locations[..ends],
-        &mut fields[..jumps],
-        &mut targets[..jumps],
-        &mut kinds[..jumps],
-        &mut makers[..jumps],
-    );
+    lent.looked_over(written)?;
+    let size = lent.put(written, shown_of(named, written.jumps), out);
+    lent.mark_written(written);
     reply_of(size)
 }
 
@@ -188,50 +164,45 @@ fn ends_of(program: &[u8]) -> usize {
     program.len() / 8 + 1
 }
 
-// What is lent here is lent whole. It is marked before, and marked again afterwards where there is no problem. `named` asks for the kinds
-// and makers.
 fn run_lent(
     program: &[u8],
-    flags: Flags,
-    mode: Mode,
-    named: bool,
+    case: Case,
     ids: &[u32],
     addresses: &[u64],
-    code: &mut [u8],
-    locations: &mut [u32],
-    fields: &mut [u32],
-    targets: &mut [u32],
-    kinds: &mut [u32],
-    makers: &mut [u32],
+    lent: &mut Lent,
     out: &mut [u8],
-) -> Reply
-    ensures { result.size ≤ length out.new }
+) -> Result<usize, Problem>
+    ensures { IfOk result (λ size. size ≤ length out.new) }
 {
     match translate(
-        program, flags, mode, ids, addresses, code, locations, fields, targets, kinds, makers,
+        program,
+        case.flags,
+        case.mode,
+        ids,
+        addresses,
+        lent.code,
+        lent.locations,
+        lent.fields,
+        lent.targets,
+        lent.kinds,
+        lent.makers,
     ) {
-        Answer::Refused(refusal) => refused(
-            refusal, code, locations, fields, targets, kinds, makers, out,
-        ),
-        Answer::Accepted { length, jumps } => accepted(
-            code,
-            length,
-            locations,
-            ends_of(program),
-            fields,
-            targets,
-            kinds,
-            makers,
-            jumps,
-            named,
-            out,
-        ),
+        Ok(Accepted { length, jumps }) => {
+            let written = Written {
+                code: length,
+                locations: ends_of(program),
+                jumps,
+            };
+            accepted(written, case.named, lent, out)
+        }
+        Err(refusal) => refused(refusal, lent, out),
     }
 }
 
-// Of a longer page or table than there is the whole is lent, which the translator cannot tell.
+// Of a longer page or table than there is the whole is lent, which the translator cannot tell. The slices come one by one, since the check makes
+// no proof of a `Lent` that is cut out of another.
 fn run_case(
-    body: &[u8],
+    program: &[u8],
     case: Case,
     ids: &[u32],
     addresses: &[u64],
@@ -242,122 +213,68 @@ fn run_case(
     kinds: &mut [u32],
     makers: &mut [u32],
     out: &mut [u8],
-) -> Reply
-    requires { Inside body ids addresses case }
-    ensures { result.size ≤ length out.new }
+) -> Result<usize, Problem>
+    ensures { IfOk result (λ size. size ≤ length out.new) }
 {
-    let flags = parts::flags_of(case);
-    let mode = parts::mode_of(case);
-    let program = case.program;
-    let i = case.ids;
-    let a = case.addresses;
-    let c = least(case.code, code.len());
-    let l = least(case.locations, locations.len());
-    let f = least(case.fields, fields.len());
-    let t = least(case.targets, targets.len());
-    let k = least(case.kinds, kinds.len());
-    let m = least(case.makers, makers.len());
-    run_lent(
-        &body[program..],
-        flags,
-        mode,
-        case.named,
-        &ids[..i],
-        &addresses[..a],
-        &mut code[..c],
-        &mut locations[..l],
-        &mut fields[..f],
-        &mut targets[..t],
-        &mut kinds[..k],
-        &mut makers[..m],
-        out,
-    )
+    let page = case.code.min(code.len());
+    let ends = case.locations.min(locations.len());
+    let places = case.fields.min(fields.len());
+    let goals = case.targets.min(targets.len());
+    let sorts = case.kinds.min(kinds.len());
+    let sources = case.makers.min(makers.len());
+    let mut lent = Lent {
+        code: &mut code[..page],
+        locations: &mut locations[..ends],
+        fields: &mut fields[..places],
+        targets: &mut targets[..goals],
+        kinds: &mut kinds[..sorts],
+        makers: &mut makers[..sources],
+    };
+    run_lent(program, case, ids, addresses, &mut lent, out)
 }
 
 // The case in a record's body, taken apart and run.
-fn run_body(
-    body: &[u8],
-    code: &mut [u8],
-    locations: &mut [u32],
-    fields: &mut [u32],
-    targets: &mut [u32],
-    kinds: &mut [u32],
-    makers: &mut [u32],
-    out: &mut [u8],
-) -> Reply
-    ensures { result.size ≤ length out.new }
+fn run_body(body: &[u8], lent: &mut Lent, out: &mut [u8]) -> Result<usize, Problem>
+    ensures { IfOk result (λ size. size ≤ length out.new) }
 {
-    let mut ids = [0u32; limits::HELPERS];
-    let mut addresses = [0u64; limits::HELPERS];
-    let case = parts::take_apart(body, &mut ids, &mut addresses);
-    let malformed = case.problem;
-    if !cases_problems::is_nothing(malformed) {
-        return no_reply(malformed);
-    }
+    let mut ids = [0u32; HELPERS];
+    let mut addresses = [0u64; HELPERS];
+    let case = take_apart(body, &mut ids, &mut addresses)?;
     run_case(
-        body, case, &ids, &addresses, code, locations, fields, targets, kinds, makers, out,
+        &body[case.program..],
+        case,
+        &ids[..case.ids],
+        &addresses[..case.addresses],
+        lent.code,
+        lent.locations,
+        lent.fields,
+        lent.targets,
+        lent.kinds,
+        lent.makers,
+        out,
     )
 }
 
 // A stream's next case, read and run: the window behind it and how many bytes its answer is.
 #[derive(Clone, Copy)]
 pub struct Done {
-    pub problem: Problem,
-    pub start: usize,
-    pub end: usize,
+    pub rest: Window,
     pub size: usize,
-}
-
-fn not_done(problem: Problem) -> Done
-    ensures { (result.start ≡ 0) × ((result.end ≡ 0) × (result.size ≡ 0)) }
-{
-    Done {
-        problem,
-        start: 0,
-        end: 0,
-        size: 0,
-    }
 }
 
 // The answer is put at the start of `out`. After a problem the stream is not to be gone on with.
 pub fn run_next(
     from: &Source,
     input: &mut [u8],
-    start: usize,
-    end: usize,
-    code: &mut [u8],
-    locations: &mut [u32],
-    fields: &mut [u32],
-    targets: &mut [u32],
-    kinds: &mut [u32],
-    makers: &mut [u32],
+    window: Window,
+    lent: &mut Lent,
     out: &mut [u8],
-) -> Done
-    requires { (start ≤ end) × (end ≤ length input.old) }
-    ensures { (result.start ≤ result.end) × ((result.end ≤ length input.new) × (result.size ≤ length out.new)) }
+) -> Result<Done, Problem>
+    requires { window.end ≤ length input.old }
+    ensures { IfOk result (λ done. (done.rest.end ≤ length input.new) × (done.size ≤ length out.new)) }
 {
-    let record = stream::next_record(from, input, stream::window_of(start, end), limits::CASE);
-    let unread = record.problem;
-    if !cases_problems::is_nothing(unread) {
-        return not_done(unread);
-    }
-    let at = record.at;
-    let behind = at + record.length;
-    let reply = run_body(
-        &input[at..behind],
-        code,
-        locations,
-        fields,
-        targets,
-        kinds,
-        makers,
-        out,
-    );
-    let wrong = reply.problem;
-    Done {
-        problem: wrong,
-        start: behind,
-        end: record.end,
-        size: reply.size,
-    }
+    let record = next_record(from, input, window, CASE)?;
+    let rest = record.rest;
+    let size = run_body(&input[record.at..rest.start], lent, out)?;
+    Ok(Done { rest, size })
 }

@@ -1,9 +1,7 @@
 -- A slot's eight bytes and its fields: RFC 9669, section 3.1, little-endian.
-use Rattle.std.specs.Prelude.{ℕ, ◌+◌, ◌*◌, ◌/◌, ◌%◌, List, length, nat_lt, slice_index}
+use Rattle.std.specs.Prelude.{ℕ, ◌+◌, ◌*◌, ◌/◌, ◌%◌, List, length, nat_lt, slice_index, Option, Some, None}
 use Rattle.base.specs.Pick.{pick}
 use Rattle.ebpf.specs.declared.insn.Insn.{Insn}
-use Rattle.ebpf.specs.declared.insn.Read.{Read}
-use Rattle.ebpf.specs.declared.insn.Read.TheVariants.{Whole, Torn}
 
 -- two and four bytes from a place on, lowest first
 abbrev pub le2 : List ℕ → ℕ → ℕ
@@ -28,5 +26,5 @@ insn_at prog slot =
     }
 
 -- the slot, where its eight bytes are all there
-unfoldable pub read_at : List ℕ → ℕ → Read
-read_at prog slot = pick (nat_lt (length prog) (8 * slot + 8)) Torn (Whole (insn_at prog slot))
+unfoldable pub read_at : List ℕ → ℕ → Option Insn
+read_at prog slot = pick (nat_lt (length prog) (8 * slot + 8)) None (Some (insn_at prog slot))

@@ -16,41 +16,19 @@ pub struct Insn {
     pub imm: u32,
 }
 
-// What reading a slot finds.
-#[derive(Clone, Copy)]
-pub enum Read {
-    // Its eight bytes, taken apart.
-    Whole(Insn),
-    // Not all of its eight bytes are there.
-    Torn,
-}
-
-// The value of a byte in a wider number.
-fn wide(x: u8) -> u32
-    ensures { (result ≡ x) × (result < 256) }
-{
-    x as u32
-}
-
 // `LittleEndian::read_i16` and `read_i32` of the Rust, at a place of the slice; the answer is the two's complement.
 fn read_i16(s: &[u8], at: usize) -> u32
     requires { at + 2 ≤ length s.now }
     ensures { (result ≡ le2 s.now at) × (result < 2 ^ 16) }
 {
-    let b0 = wide(s[at]);
-    let b1 = wide(s[at + 1]);
-    b0 + 256 * b1
+    u32::from(s[at]) + 256 * u32::from(s[at + 1])
 }
 
 pub fn read_i32(s: &[u8], at: usize) -> u32
     requires { at + 4 ≤ length s.now }
     ensures { result ≡ le4 s.now at }
 {
-    let b0 = wide(s[at]);
-    let b1 = wide(s[at + 1]);
-    let b2 = wide(s[at + 2]);
-    let b3 = wide(s[at + 3]);
-    b0 + 256 * b1 + 65536 * b2 + 16777216 * b3
+    u32::from_le_bytes([s[at], s[at + 1], s[at + 2], s[at + 3]])
 }
 
 // A 16-bit two's complement number as a 32-bit one.
@@ -85,17 +63,17 @@ pub fn insn_at(prog: &[u8], slot: Slot) -> Insn
     }
 }
 
-// Where the Rust panics, the answer is `Torn`.
-pub fn get_insn(prog: &[u8], slot: Slot) -> Read
+// None where not all of the slot's eight bytes are there; the Rust panics.
+pub fn get_insn(prog: &[u8], slot: Slot) -> Option<Insn>
     ensures { result ≡ read_at prog.now slot.number }
 {
     if prog.len() / INSN_SIZE <= slot.number {
-        return Read::Torn;
+        return None;
     }
-    Read::Whole(insn_at(prog, slot))
+    Some(insn_at(prog, slot))
 }
 
-// What is behind the last whole slot.
+// What is behind the last whole slot. It holds no value; as a `bool` it would not say which of the two is which.
 #[derive(Clone, Copy)]
 pub enum Tail {
     Nothing,

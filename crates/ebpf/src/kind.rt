@@ -73,6 +73,7 @@ pub enum Kind {
     Exit,
 }
 
+// Three answers, and no `Result<Kind, ..>`: nobody hands on that there is no kind, and all three stand side by side where it is asked.
 #[derive(Clone, Copy)]
 pub enum Lookup {
     Known(Kind),
@@ -82,7 +83,8 @@ pub enum Lookup {
 }
 
 // A kind's number; the fields below it (size, width, source, operation) are the opcode's own. Up to KIND_CALL are those of which a look at
-// the slot has more to ask, so that one comparison passes all others.
+// the slot has more to ask, so that one comparison passes all others. They are numbers and no enum: a constant array of 256 values of one takes
+// a minute more of a core to check, which is more than all else in this crate (docs/DECISIONS.md).
 pub const KIND_UNKNOWN: u8 = 0;
 
 pub const KIND_UNIMPLEMENTED: u8 = 1;
@@ -122,7 +124,7 @@ pub const KIND_MOV: u8 = 17;
 pub const KIND_EXIT: u8 = 18;
 
 // At each opcode its kind's number.
-pub const KINDS: [u8; 256] = [
+const KINDS: [u8; 256] = [
     KIND_UNKNOWN, // 00
     KIND_UNKNOWN, // 01
     KIND_UNKNOWN, // 02
@@ -493,26 +495,34 @@ fn kind_numbered(opc: u8, number: u8) -> Lookup
     }
 }
 
-// An opcode's entry in the table, which a caller takes into a local once and lends, since an indexed constant is laid out anew at each
-// use.
-pub fn number_in(kinds: &[u8; 256], opc: u8) -> u8
-    requires { kinds.now ≡ numbers }
-    ensures { result ≡ slice_index numbers opc }
-{
-    kinds[opc as usize]
+// The opcode table, laid out once and lent from then on, since an indexed constant is laid out anew at each use.
+#[derive(Drop)]
+pub struct Opcodes {
+    pub entries: [u8; 256],
+    pub ghost whole: { entries ≡ numbers },
 }
 
-// The kind of an opcode by the table.
-pub fn kind_in(kinds: &[u8; 256], opc: u8) -> Lookup
-    requires { kinds.now ≡ numbers }
-    ensures { result ≡ kind_of opc }
-{
-    kind_numbered(opc, number_in(kinds, opc))
+impl Opcodes {
+    pub fn new() -> Self {
+        Opcodes { entries: KINDS }
+    }
+
+    // An opcode's entry, which is its kind's number.
+    pub fn number_of(&self, opc: u8) -> u8
+        ensures { result ≡ slice_index numbers opc }
+    {
+        self.entries[opc as usize]
+    }
+
+    pub fn kind_of(&self, opc: u8) -> Lookup
+        ensures { result ≡ kind_of opc }
+    {
+        kind_numbered(opc, self.number_of(opc))
+    }
 }
 
 pub fn kind_of(opc: u8) -> Lookup
     ensures { result ≡ kind_of opc }
 {
-    let kinds = KINDS;
-    kind_in(&kinds, opc)
+    Opcodes::new().kind_of(opc)
 }

@@ -20,12 +20,13 @@ use text::text::put_text;
 fn letter_of(width: Width) -> u64
     ensures { result ≡ letter_of width }
 {
-    match width {
-        Width::W32 => 0x77,
-        Width::W64 => 0x72,
-    }
+    u64::from(match width {
+        Width::W32 => b'w',
+        Width::W64 => b'r',
+    })
 }
 
+// One match, as a method of `Size` would be, for which `size_bits` of base/specs/Widths.antt is the definition.
 fn size_bits(size: Size) -> u64
     ensures { result ≡ size_bits size }
 {
@@ -42,7 +43,7 @@ fn put_operand(out: &mut [u8], at: usize, width: Width, source: Source, i: Insn)
 {
     match source {
         Source::Imm => put_form(out, at, b" ~", &[extended(i.imm)]),
-        Source::Reg => put_form(out, at, b" %#", &[letter_of(width), i.src as u64]),
+        Source::Reg => put_form(out, at, b" %#", &[letter_of(width), u64::from(i.src)]),
     }
 }
 
@@ -57,19 +58,21 @@ pub fn put_binary(
 ) -> usize
     ensures { Says out at result (binary width source i (given operator)) }
 {
-    let next = put_form(out, at, b"%# ", &[letter_of(width), i.dst as u64]);
+    let next = put_form(out, at, b"%# ", &[letter_of(width), u64::from(i.dst)]);
     let next = put_text(out, next, operator);
     put_operand(out, next, width, source, i)
 }
 
+#[tactic(auto, unfolding(crate::specs::Statements::neg_text))]
 pub fn put_neg(out: &mut [u8], at: usize, width: Width, i: Insn) -> usize
     ensures { Says out at result (neg_text width i) }
 {
     let letter = letter_of(width);
-    let dst = i.dst as u64;
+    let dst = u64::from(i.dst);
     put_form(out, at, b"%# = -%#", &[letter, dst, letter, dst])
 }
 
+#[tactic(auto, unfolding(crate::specs::Statements::abs_text))]
 pub fn put_ld_abs(out: &mut [u8], at: usize, size: Size, i: Insn) -> usize
     ensures { Says out at result (abs_text size i) }
 {
@@ -81,6 +84,7 @@ pub fn put_ld_abs(out: &mut [u8], at: usize, size: Size, i: Insn) -> usize
     )
 }
 
+#[tactic(auto, unfolding(crate::specs::Statements::ind_text))]
 pub fn put_ld_ind(out: &mut [u8], at: usize, size: Size, i: Insn) -> usize
     ensures { Says out at result (ind_text size i) }
 {
@@ -89,10 +93,11 @@ pub fn put_ld_ind(out: &mut [u8], at: usize, size: Size, i: Insn) -> usize
         out,
         at,
         b"r0 = *(u# *)skb[r# _]",
-        &[bits, i.src as u64, extended(i.imm)],
+        &[bits, u64::from(i.src), extended(i.imm)],
     )
 }
 
+#[tactic(auto, unfolding(crate::specs::Statements::load_text))]
 pub fn put_ld_reg(out: &mut [u8], at: usize, size: Size, i: Insn) -> usize
     ensures { Says out at result (load_text size i) }
 {
@@ -102,10 +107,11 @@ pub fn put_ld_reg(out: &mut [u8], at: usize, size: Size, i: Insn) -> usize
         out,
         at,
         b"r# = *(u# *)(r# _)",
-        &[i.dst as u64, bits, i.src as u64, off],
+        &[u64::from(i.dst), bits, u64::from(i.src), off],
     )
 }
 
+#[tactic(auto, unfolding(crate::specs::Statements::store_imm_text))]
 pub fn put_st_imm(out: &mut [u8], at: usize, size: Size, i: Insn) -> usize
     ensures { Says out at result (store_imm_text size i) }
 {
@@ -115,10 +121,11 @@ pub fn put_st_imm(out: &mut [u8], at: usize, size: Size, i: Insn) -> usize
         out,
         at,
         b"*(u# *)(r# _) = ~",
-        &[bits, i.dst as u64, off, extended(i.imm)],
+        &[bits, u64::from(i.dst), off, extended(i.imm)],
     )
 }
 
+#[tactic(auto, unfolding(crate::specs::Statements::store_reg_text))]
 pub fn put_st_reg(out: &mut [u8], at: usize, size: Size, i: Insn) -> usize
     ensures { Says out at result (store_reg_text size i) }
 {
@@ -128,32 +135,36 @@ pub fn put_st_reg(out: &mut [u8], at: usize, size: Size, i: Insn) -> usize
         out,
         at,
         b"*(u# *)(r# _) = r#",
-        &[bits, i.dst as u64, off, i.src as u64],
+        &[bits, u64::from(i.dst), off, u64::from(i.src)],
     )
 }
 
 // `high` is the imm of the second slot.
+#[tactic(auto, unfolding(crate::specs::Statements::wide_text))]
 pub fn put_ld_dw_imm(out: &mut [u8], at: usize, i: Insn, high: u32) -> usize
     ensures { Says out at result (wide_text i high) }
 {
-    let value = i.imm as u64 + 0x1_0000_0000 * (high as u64);
-    put_form(out, at, b"r# = 0x$ ll", &[i.dst as u64, value])
+    let value = u64::from(i.imm) + 0x1_0000_0000 * u64::from(high);
+    put_form(out, at, b"r# = 0x$ ll", &[u64::from(i.dst), value])
 }
 
+#[tactic(auto, unfolding(crate::specs::Statements::le_text))]
 pub fn put_le(out: &mut [u8], at: usize, i: Insn) -> usize
     ensures { Says out at result (le_text i) }
 {
-    let dst = i.dst as u64;
+    let dst = u64::from(i.dst);
     put_form(out, at, b"r# = le~ r#", &[dst, extended(i.imm), dst])
 }
 
+#[tactic(auto, unfolding(crate::specs::Statements::be_text))]
 pub fn put_be(out: &mut [u8], at: usize, i: Insn) -> usize
     ensures { Says out at result (be_text i) }
 {
-    let dst = i.dst as u64;
+    let dst = u64::from(i.dst);
     put_form(out, at, b"r# = be~ r#", &[dst, extended(i.imm), dst])
 }
 
+#[tactic(auto, unfolding(crate::specs::Statements::goto_text))]
 pub fn put_ja(out: &mut [u8], at: usize, i: Insn) -> usize
     ensures { Says out at result (goto_text i) }
 {
@@ -161,28 +172,27 @@ pub fn put_ja(out: &mut [u8], at: usize, i: Insn) -> usize
 }
 
 // A helper by its id, or a local call, counted from the slot behind.
+#[tactic(auto, unfolding(crate::specs::Statements::call_text))]
 pub fn put_call(out: &mut [u8], at: usize, i: Insn) -> usize
     ensures { Says out at result (call_text i) }
 {
-    let src = i.src;
-    if src == 0 {
-        return put_form(out, at, b"call #", &[i.imm as u64]);
+    if i.src == 0 {
+        return put_form(out, at, b"call #", &[u64::from(i.imm)]);
     }
     put_form(out, at, b"call pc^", &[extended(i.imm)])
 }
 
 // An opcode that is not translated: what the slot holds.
+#[tactic(auto, unfolding(crate::specs::Statements::plain_text))]
 pub fn put_plain(out: &mut [u8], at: usize, i: Insn) -> usize
     ensures { Says out at result (plain_text i) }
 {
-    let opc = i.opc as u64;
-    let dst = i.dst as u64;
-    let src = i.src as u64;
-    let off = extended(i.off);
-    put_form(
-        out,
-        at,
-        b"opcode 0x@, dst #, src #, off ~, imm ~",
-        &[opc, dst, src, off, extended(i.imm)],
-    )
+    let fields = [
+        u64::from(i.opc),
+        u64::from(i.dst),
+        u64::from(i.src),
+        extended(i.off),
+        extended(i.imm),
+    ];
+    put_form(out, at, b"opcode 0x@, dst #, src #, off ~, imm ~", &fields)
 }

@@ -5,7 +5,6 @@
 
 ghost use Rattle.std.specs.Prelude.{◌≡◌};
 ghost use Rattle.text.specs.Lent.{Says, given};
-ghost use Rattle.ebpf_statements.specs.Statements.{binary};
 ghost use Rattle.ebpf_text.specs.Assembler.{alu_text, shift_text, mul_text, condition_text, jump_text, kind_text, lookup_text, high_of, slot_text};
 
 use base::Width;
@@ -18,67 +17,53 @@ use text::form::put_form;
 use text::number::extended;
 use text::text::put_text;
 
-fn put_alu(out: &mut [u8], at: usize, op: AluOp, width: Width, source: Source, i: Insn) -> usize
-    ensures { Says out at result (binary width source i (alu_text op)) }
+fn alu_operator(op: AluOp) -> &'static [u8]
+    ensures { result.now ≡ alu_text op }
 {
     match op {
-        AluOp::Add => put_binary(out, at, width, source, i, b"+="),
-        AluOp::Sub => put_binary(out, at, width, source, i, b"-="),
-        AluOp::Or => put_binary(out, at, width, source, i, b"|="),
-        AluOp::And => put_binary(out, at, width, source, i, b"&="),
-        AluOp::Xor => put_binary(out, at, width, source, i, b"^="),
+        AluOp::Add => b"+=",
+        AluOp::Sub => b"-=",
+        AluOp::Or => b"|=",
+        AluOp::And => b"&=",
+        AluOp::Xor => b"^=",
     }
 }
 
-fn put_shift(out: &mut [u8], at: usize, op: ShiftOp, width: Width, source: Source, i: Insn) -> usize
-    ensures { Says out at result (binary width source i (shift_text op)) }
+fn shift_operator(op: ShiftOp) -> &'static [u8]
+    ensures { result.now ≡ shift_text op }
 {
     match op {
-        ShiftOp::Lsh => put_binary(out, at, width, source, i, b"<<="),
-        ShiftOp::Rsh => put_binary(out, at, width, source, i, b">>="),
-        ShiftOp::Arsh => put_binary(out, at, width, source, i, b"s>>="),
+        ShiftOp::Lsh => b"<<=",
+        ShiftOp::Rsh => b">>=",
+        ShiftOp::Arsh => b"s>>=",
     }
 }
 
-fn put_muldivmod(
-    out: &mut [u8],
-    at: usize,
-    op: MulOp,
-    width: Width,
-    source: Source,
-    i: Insn,
-) -> usize
-    ensures { Says out at result (binary width source i (mul_text op)) }
+fn mul_operator(op: MulOp) -> &'static [u8]
+    ensures { result.now ≡ mul_text op }
 {
     match op {
-        MulOp::Mul => put_binary(out, at, width, source, i, b"*="),
-        MulOp::Div => put_binary(out, at, width, source, i, b"/="),
-        MulOp::Mod => put_binary(out, at, width, source, i, b"%="),
+        MulOp::Mul => b"*=",
+        MulOp::Div => b"/=",
+        MulOp::Mod => b"%=",
     }
 }
 
-fn put_comparison(
-    out: &mut [u8],
-    at: usize,
-    c: Condition,
-    width: Width,
-    source: Source,
-    i: Insn,
-) -> usize
-    ensures { Says out at result (binary width source i (condition_text c)) }
+fn comparison(c: Condition) -> &'static [u8]
+    ensures { result.now ≡ condition_text c }
 {
     match c {
-        Condition::Jeq => put_binary(out, at, width, source, i, b"=="),
-        Condition::Jgt => put_binary(out, at, width, source, i, b">"),
-        Condition::Jge => put_binary(out, at, width, source, i, b">="),
-        Condition::Jset => put_binary(out, at, width, source, i, b"&"),
-        Condition::Jne => put_binary(out, at, width, source, i, b"!="),
-        Condition::Jsgt => put_binary(out, at, width, source, i, b"s>"),
-        Condition::Jsge => put_binary(out, at, width, source, i, b"s>="),
-        Condition::Jlt => put_binary(out, at, width, source, i, b"<"),
-        Condition::Jle => put_binary(out, at, width, source, i, b"<="),
-        Condition::Jslt => put_binary(out, at, width, source, i, b"s<"),
-        Condition::Jsle => put_binary(out, at, width, source, i, b"s<="),
+        Condition::Jeq => b"==",
+        Condition::Jgt => b">",
+        Condition::Jge => b">=",
+        Condition::Jset => b"&",
+        Condition::Jne => b"!=",
+        Condition::Jsgt => b"s>",
+        Condition::Jsge => b"s>=",
+        Condition::Jlt => b"<",
+        Condition::Jle => b"<=",
+        Condition::Jslt => b"s<",
+        Condition::Jsle => b"s<=",
     }
 }
 
@@ -86,7 +71,7 @@ fn put_jump(out: &mut [u8], at: usize, c: Condition, width: Width, source: Sourc
     ensures { Says out at result (jump_text c width source i) }
 {
     let next = put_text(out, at, b"if ");
-    let next = put_comparison(out, next, c, width, source, i);
+    let next = put_binary(out, next, width, source, i, comparison(c));
     put_form(out, next, b" goto ^", &[extended(i.off)])
 }
 
@@ -100,10 +85,17 @@ fn put_kind(out: &mut [u8], at: usize, kind: Kind, i: Insn, high: u32) -> usize
         Kind::LdReg(size) => ebpf_statements::put_ld_reg(out, at, size, i),
         Kind::StImm(size) => ebpf_statements::put_st_imm(out, at, size, i),
         Kind::StReg(size) => ebpf_statements::put_st_reg(out, at, size, i),
-        Kind::Alu(op, width, source) => put_alu(out, at, op, width, source, i),
-        Kind::Shift(op, width, source) => put_shift(out, at, op, width, source, i),
+        Kind::Alu(op, width, source) => put_binary(out, at, width, source, i, alu_operator(op)),
+        Kind::Shift(op, width, source) => put_binary(out, at, width, source, i, shift_operator(op)),
         Kind::Neg(width) => ebpf_statements::put_neg(out, at, width, i),
-        Kind::MulDivMod(op, width, source) => put_muldivmod(out, at, op, width, source, i),
+        Kind::MulDivMod(op, width, source) => put_binary(
+            out,
+            at,
+            width,
+            source,
+            i,
+            mul_operator(op),
+        ),
         Kind::Mov(width, source) => put_binary(out, at, width, source, i, b"="),
         Kind::Le => ebpf_statements::put_le(out, at, i),
         Kind::Be => ebpf_statements::put_be(out, at, i),
@@ -119,28 +111,26 @@ fn put_lookup(out: &mut [u8], at: usize, found: Lookup, i: Insn, high: u32) -> u
 {
     match found {
         Lookup::Known(kind) => put_kind(out, at, kind, i, high),
-        Lookup::Unimplemented => ebpf_statements::put_plain(out, at, i),
-        Lookup::Unknown => ebpf_statements::put_plain(out, at, i),
+        Lookup::Unimplemented | Lookup::Unknown => ebpf_statements::put_plain(out, at, i),
     }
 }
 
 // The imm of the next slot, where there is one.
+#[tactic(auto, unfolding(crate::specs::Assembler::high_of))]
 fn high_of(prog: &[u8], slot: usize) -> u32
     ensures { result ≡ high_of (given prog) slot }
 {
     if slot < prog.len() / INSN_SIZE {
-        let next = fields_at(prog, slot + 1);
-        return next.imm;
+        return fields_at(prog, slot + 1).imm;
     }
     0
 }
 
 // The slot in assembler. A slot whose bytes are not all there reads as zeros.
+#[tactic(auto, unfolding(crate::specs::Assembler::slot_text))]
 pub fn put_slot(out: &mut [u8], at: usize, prog: &[u8], slot: usize) -> usize
     ensures { Says out at result (slot_text (given prog) slot) }
 {
     let i = fields_at(prog, slot);
-    let found = kind_of(i.opc);
-    let high = high_of(prog, slot);
-    put_lookup(out, at, found, i, high)
+    put_lookup(out, at, kind_of(i.opc), i, high_of(prog, slot))
 }

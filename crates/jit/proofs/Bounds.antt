@@ -1,4 +1,5 @@
 -- What an accepted program's code and tables can grow to: at most `long_slot` bytes and one listed jump a slot.
+use Rattle.std.proofs.Common.{Option, Some, None}
 use mathlib.Core.Path.{◌≡◌, ◌∙◌, refl, sym}
 use mathlib.Core.Bool.{Bool, true, false}
 use mathlib.Core.List.{List, [], ◌∷◌, ◌++◌}
@@ -12,15 +13,13 @@ use Rattle.base.proofs.Tests.{true-T}
 use Rattle.ebpf.specs.Insn.{insn_at, read_at}
 use Rattle.ebpf.specs.Opcode.{kind_of}
 use Rattle.ebpf.specs.declared.insn.Insn.{Insn}
-use Rattle.ebpf.specs.declared.insn.Read.TheVariants.{Whole, Torn}
 use Rattle.ebpf.specs.declared.kind.Kind.{Kind}
 use Rattle.ebpf.specs.declared.kind.Kind.TheVariants.{LdAbs, LdInd, LdDwImm, LdReg, StImm, StReg, Alu, Shift, Neg, MulDivMod, Mov, Le, Be, Ja, Jump, Call, Exit}
 use Rattle.ebpf.specs.declared.kind.Lookup.{Lookup}
 use Rattle.ebpf.specs.declared.kind.Lookup.TheVariants.{Known, Unimplemented, Unknown}
+use Rattle.base.specs.declared.Slot.{Slot}
 use Rattle.jit.specs.declared.Flags.{Flags}
 use Rattle.jit.specs.declared.Refusal.{Refusal}
-use Rattle.jit.specs.declared.Bad.{Bad}
-use Rattle.jit.specs.declared.Bad.TheVariants.{Nowhere, At}
 use Rattle.x86.specs.Code.{size, targets_of}
 use Rattle.x86.specs.Lowered.{fields_of, code_of}
 use Rattle.x86.proofs.CodeLaws.{size-append, targets-append, length-bytes, length_fields}
@@ -73,7 +72,7 @@ module _ (filter : Filter) (slot : ℕ) (first : 8 * slot + 8 ≤ length filter.
       by (has value) = fine-block k i value (λ t. absurd (never (sym t ∙ e)))
 
   fine-wide : (i : Insn) (t : Bool) → ltb (length program) (8 * (slot + 1) + 8) ≡ t → (j : Insn)
-      → Fine program slot (taken filter.mode LdDwImm slot i (wide_value slot i (pick t Torn (Whole j))))
+      → Fine program slot (taken filter.mode LdDwImm slot i (wide_value slot i (pick t None (Some j))))
   fine-wide i true e j = tt
   fine-wide i false e j = fine-block LdDwImm i _ (λ _. omega (arith, ltb-false (length program) (8 * (slot + 1) + 8) e))
 
@@ -118,7 +117,7 @@ step-fine filter slot = by (ltb (length program) (8 * slot + 8)) refl
     program = filter.program
 
     by : (t : Bool) → ltb (length program) (8 * slot + 8) ≡ t
-        → Fine program slot (step_read filter slot (pick t Torn (Whole (insn_at program slot))) (read_at program (slot + 1)))
+        → Fine program slot (step_read filter slot (pick t None (Some (insn_at program slot))) (read_at program (slot + 1)))
     by true e = tt
     by false e =
         let i = insn_at program slot in
@@ -239,9 +238,9 @@ module _ (x : Inputs) (few : length x.filter.program ≤ longest_program) where
       end : Outcome
       end = no (Refusal.NoRoom (record { number = slots_of x.filter.program }))
 
-      by : (t : Bool) → leb (size (whole x.flags bs)) x.page ≡ t → (b : Bad) → Bound x (pick t (unless_bad b (accepted x.flags bs)) end)
-      by true e Nowhere = bound-blocks bs h (leb→le _ _ (true-T _ e))
-      by true e (At s) = tt
+      by : (t : Bool) → leb (size (whole x.flags bs)) x.page ≡ t → (b : Option Slot) → Bound x (pick t (unless_bad b (accepted x.flags bs)) end)
+      by true e None = bound-blocks bs h (leb→le _ _ (true-T _ e))
+      by true e (Some s) = tt
       by false e b = tt
 
 pub bounds : (x : Inputs) → Bound x (translation_of x)

@@ -1,4 +1,5 @@
 -- What `compact` makes of a whole program (specs/Compact.antt): slot for slot the same walk, which ends for want of room later or not at all.
+use Rattle.std.proofs.Common.{Option, Some, None}
 use mathlib.Core.Path.{◌≡◌, refl, ap, sym}
 use mathlib.Core.Bool.{Bool, true, false}
 use mathlib.Core.List.{List, [], ◌∷◌, ◌++◌}
@@ -11,19 +12,16 @@ use Rattle.base.proofs.Tests.{true-T, leb-true}
 use Rattle.ebpf.specs.Insn.{read_at}
 use Rattle.ebpf.specs.Opcode.{kind_of}
 use Rattle.ebpf.specs.declared.insn.Insn.{Insn}
-use Rattle.ebpf.specs.declared.insn.Read.{Read}
-use Rattle.ebpf.specs.declared.insn.Read.TheVariants.{Whole, Torn}
 use Rattle.ebpf.specs.declared.kind.Kind.{Kind}
 use Rattle.ebpf.specs.declared.kind.Kind.TheVariants.{LdAbs, LdInd, LdDwImm, LdReg, StImm, StReg, Alu, Shift, Neg, MulDivMod, Mov, Le, Be, Ja, Jump, Call, Exit}
 use Rattle.ebpf.specs.declared.kind.Lookup.{Lookup}
 use Rattle.ebpf.specs.declared.kind.Lookup.TheVariants.{Known, Unimplemented, Unknown}
+use Rattle.base.specs.declared.Slot.{Slot}
 use Rattle.x86.specs.Encode.{isa}
 use Rattle.x86.specs.Code.{size, targets_of, kinds_of}
 use Rattle.code.proofs.PageLaws.{wide-some}
 use Rattle.x86.proofs.CodeLaws.{size-append, length-bytes, targets-append, kinds-append}
 use Rattle.jit.specs.declared.Flags.{Flags}
-use Rattle.jit.specs.declared.Bad.{Bad}
-use Rattle.jit.specs.declared.Bad.TheVariants.{Nowhere, At}
 use Rattle.jit.specs.declared.Refusal.{Refusal}
 use Rattle.jit.specs.Refusals.{number_of, slot_of}
 use Rattle.jit.specs.Limits.{shortest_page, longest_page, longest_program}
@@ -54,7 +52,7 @@ module _ (filter : Filter) (slot : ℕ) where
   abbrev on : Filter
   on = in_mode compact_on filter
 
-  operand_same : (k : Kind) (i : Insn) (next : Read) → operand_of on k slot i next ≡ operand_of off k slot i next
+  operand_same : (k : Kind) (i : Insn) (next : Option Insn) → operand_of on k slot i next ≡ operand_of off k slot i next
   operand_same (LdAbs z) i next = refl
   operand_same (LdInd z) i next = refl
   operand_same LdDwImm i next = refl
@@ -77,14 +75,14 @@ module _ (filter : Filter) (slot : ℕ) where
   taken-shortened k i (lacks r) = refl
   taken-shortened k i (has v) = ap (λ (c : Code). go (record { code = c; wide = wide_kind k })) (slots filter.mode k slot i v)
 
-  known-shortened : (l : Lookup) (i : Insn) (next : Read) → known on l slot i next ≡ shortened_step (known off l slot i next)
+  known-shortened : (l : Lookup) (i : Insn) (next : Option Insn) → known on l slot i next ≡ shortened_step (known off l slot i next)
   known-shortened Unknown i next = refl
   known-shortened Unimplemented i next = refl
   known-shortened (Known k) i next = rw (operand_same k i next) (taken-shortened k i (operand_of off k slot i next))
 
-  read-shortened : (r next : Read) → step_read on slot r next ≡ shortened_step (step_read off slot r next)
-  read-shortened Torn next = refl
-  read-shortened (Whole i) next = by (good_registers i)
+  read-shortened : (r next : Option Insn) → step_read on slot r next ≡ shortened_step (step_read off slot r next)
+  read-shortened None next = refl
+  read-shortened (Some i) next = by (good_registers i)
     where
       l : Lookup
       l = kind_of i.opc
@@ -241,10 +239,10 @@ answered-same r = (λ _. refl, λ e q h. rw (← no-is h) (same-room r e))
 
 -- what is said behind the slots, where it was 13 before: 13 for the epilogue, or 14, or nothing
 module _ (f : Flags) (n page : ℕ) where
-  behind-all : (bs : List Block) (r q : Refusal) (t : Bool) (b : Bad) → slot_of r ≤ n
+  behind-all : (bs : List Block) (r q : Refusal) (t : Bool) (b : Option Slot) → slot_of r ≤ n
       → pick t (unless_bad b (accepted f bs)) (no (Refusal.NoRoom (at n))) ≡ no q → Later r q
-  behind-all bs r q true Nowhere h e = absurd (not-refused f bs q e)
-  behind-all bs r q true (At s) h e =
+  behind-all bs r q true None h e = absurd (not-refused f bs q e)
+  behind-all bs r q true (Some s) h e =
       rw (← no-is e) (record { sizes = omega arith; room = λ z. absurd (omega (arith, z)); slots = λ z. absurd (omega (arith, z)) })
   behind-all bs r q false b h e =
       rw (← no-is e) (record { sizes = omega arith; room = λ _. h; slots = λ z. absurd (omega (arith, z)) })
@@ -262,10 +260,10 @@ module _ (f : Flags) (n page : ℕ) where
       last : Outcome
       last = no (Refusal.NoRoom (at n))
 
-      by : (s t : Bool) (b : Bad) → (s ≡ true → t ≡ true)
+      by : (s t : Bool) (b : Option Slot) → (s ≡ true → t ≡ true)
           → Answered (pick s (unless_bad b (accepted f bs)) last) (pick t (unless_bad b (accepted f (shortened_blocks bs))) last)
-      by true true Nowhere h = answered-accepted f bs
-      by true true (At s) h = answered-same (Refusal.BadTarget s)
+      by true true None h = answered-accepted f bs
+      by true true (Some s) h = answered-same (Refusal.BadTarget s)
       by true false b h = never (sym (h refl))
       by false t b h = (λ e. absurd (e refl), λ e q z. behind-all (shortened_blocks bs) (Refusal.NoRoom (at n)) q t b (omega arith) z)
 

@@ -1,4 +1,5 @@
 -- Standard mode changes the named slots alone (specs/Modes.antt), and with the mode off these have the Rust's code.
+use Rattle.std.proofs.Common.{Option, Some, None}
 use mathlib.Core.Path.{◌≡◌, refl, ap}
 use mathlib.Core.Bool.{Bool, true, false, ◌&&◌}
 use mathlib.Core.List.{[], ◌∷◌, ◌++◌}
@@ -13,8 +14,6 @@ use Rattle.base.specs.declared.Width.TheVariants.{W32, W64}
 use Rattle.ebpf.specs.Insn.{insn_at, read_at}
 use Rattle.ebpf.specs.Opcode.{kind_of}
 use Rattle.ebpf.specs.declared.insn.Insn.{Insn}
-use Rattle.ebpf.specs.declared.insn.Read.{Read}
-use Rattle.ebpf.specs.declared.insn.Read.TheVariants.{Whole, Torn}
 use Rattle.ebpf.specs.declared.kind.MulOp.{MulOp}
 use Rattle.ebpf.specs.declared.kind.MulOp.TheVariants.{Mul, Div, Mod}
 use Rattle.ebpf.specs.declared.kind.Source.{Source}
@@ -43,7 +42,7 @@ pub rust-copies : (w : Width) (slot : ℕ) (i : Insn) (value : ℕ)
     → slot_code rust (Mov w Reg) slot i value ≡ op (alu MOV W64 (reg_of i.src) (reg_of i.dst)) ∷ []
 rust-copies w slot i value = refl
 
-pub rust-le : (filter : Filter) (slot : ℕ) (i : Insn) (value : ℕ) (next : Read)
+pub rust-le : (filter : Filter) (slot : ℕ) (i : Insn) (value : ℕ) (next : Option Insn)
     → (slot_code rust Le slot i value ≡ []) × (operand_of (in_mode (λ m. rust) filter) Le slot i next ≡ has 0)
 rust-le filter slot i value next = (refl, refl)
 
@@ -92,7 +91,7 @@ slots_same m (Jump c w s) i e slot value = refl
 slots_same m Call i e slot value = refl
 slots_same m Exit i e slot value = refl
 
-module _ (filter : Filter) (slot : ℕ) (next : Read) where
+module _ (filter : Filter) (slot : ℕ) (next : Option Insn) where
   operand_same : (k : Kind) (i : Insn) → named k i ≡ false → operand_of filter k slot i next ≡ operand_of (in_mode standard_off filter) k slot i next
   operand_same (LdAbs z) i e = refl
   operand_same (LdInd z) i e = refl
@@ -130,11 +129,11 @@ module _ (filter : Filter) (none : (slot : ℕ) → 8 * slot + 8 ≤ length filt
       i : Insn
       i = insn_at filter.program slot
 
-      next : Read
+      next : Option Insn
       next = read_at filter.program (slot + 1)
 
       by : (t : Bool) → ltb (length filter.program) (8 * slot + 8) ≡ t
-          → step_read filter slot (pick t Torn (Whole i)) next ≡ step_read (in_mode standard_off filter) slot (pick t Torn (Whole i)) next
+          → step_read filter slot (pick t None (Some i)) next ≡ step_read (in_mode standard_off filter) slot (pick t None (Some i)) next
       by true q = refl
       by false q =
           let there = ltb-false (length filter.program) (8 * slot + 8) q in

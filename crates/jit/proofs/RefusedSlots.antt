@@ -1,5 +1,6 @@
 -- Where a walk over the slots is refused: with 6 to 12 at the slot that it has come to, with 13 there too, and never before the slot that it
 -- began with.
+use Rattle.std.proofs.Common.{Option, Some, None}
 use mathlib.Core.Path.{◌≡◌, refl}
 use mathlib.Core.Bool.{Bool, true, false}
 use mathlib.Core.List.{List, [], ◌∷◌}
@@ -12,14 +13,10 @@ use Rattle.base.specs.Pick.{pick}
 use Rattle.ebpf.specs.Insn.{read_at}
 use Rattle.ebpf.specs.Opcode.{kind_of}
 use Rattle.ebpf.specs.declared.insn.Insn.{Insn}
-use Rattle.ebpf.specs.declared.insn.Read.{Read}
-use Rattle.ebpf.specs.declared.insn.Read.TheVariants.{Whole, Torn}
 use Rattle.ebpf.specs.declared.kind.Kind.{Kind}
 use Rattle.ebpf.specs.declared.kind.Kind.TheVariants.{LdAbs, LdInd, LdDwImm, LdReg, StImm, StReg, Alu, Shift, Neg, MulDivMod, Mov, Le, Be, Ja, Jump, Call, Exit}
 use Rattle.ebpf.specs.declared.kind.Lookup.{Lookup}
 use Rattle.ebpf.specs.declared.kind.Lookup.TheVariants.{Known, Unimplemented, Unknown}
-use Rattle.jit.specs.declared.Helper.{Helper}
-use Rattle.jit.specs.declared.Helper.TheVariants.{Address, Missing}
 use Rattle.jit.specs.declared.Refusal.{Refusal}
 use Rattle.jit.specs.Refusals.{number_of, slot_of}
 use Rattle.x86.specs.Code.{size}
@@ -49,20 +46,20 @@ module _ (filter : Filter) (slot : ℕ) where
   swap-lacks true = tt
   swap-lacks false = given slot (Refusal.BadSwap (at slot)) refl (omega arith) (omega arith)
 
-  wide-lacks : (i : Insn) (next : Read) → Lacks slot (wide_value slot i next)
-  wide-lacks i Torn = given slot (Refusal.Torn (at slot)) refl (omega arith) (omega arith)
-  wide-lacks i (Whole j) = tt
+  wide-lacks : (i : Insn) (next : Option Insn) → Lacks slot (wide_value slot i next)
+  wide-lacks i None = given slot (Refusal.Torn (at slot)) refl (omega arith) (omega arith)
+  wide-lacks i (Some j) = tt
 
   call-lacks : (i : Insn) → Lacks slot (call_value filter.ids filter.addresses slot i)
   call-lacks i = by (eqb i.src 0) (eqb i.src 1) (helper_of filter.ids filter.addresses i.imm)
     where
-      by : (s t : Bool) (h : Helper) → Lacks slot (pick s (helper_value slot h) (pick t (has 0) (lacks (Refusal.BadCall (at slot)))))
-      by true t (Address a) = tt
-      by true t Missing = given slot (Refusal.UnknownHelper (at slot)) refl (omega arith) (omega arith)
+      by : (s t : Bool) (h : Option ℕ) → Lacks slot (pick s (helper_value slot h) (pick t (has 0) (lacks (Refusal.BadCall (at slot)))))
+      by true t (Some a) = tt
+      by true t None = given slot (Refusal.UnknownHelper (at slot)) refl (omega arith) (omega arith)
       by false true h = tt
       by false false h = given slot (Refusal.BadCall (at slot)) refl (omega arith) (omega arith)
 
-  operand-lacks : (k : Kind) (i : Insn) (next : Read) → Lacks slot (operand_of filter k slot i next)
+  operand-lacks : (k : Kind) (i : Insn) (next : Option Insn) → Lacks slot (operand_of filter k slot i next)
   operand-lacks (LdAbs z) i next = tt
   operand-lacks (LdInd z) i next = tt
   operand-lacks LdDwImm i next = wide-lacks i next
@@ -85,14 +82,14 @@ module _ (filter : Filter) (slot : ℕ) where
   taken-stops k i (lacks r) h = h
   taken-stops k i (has v) h = tt
 
-  known-stops : (l : Lookup) (i : Insn) (next : Read) → Stops slot (known filter l slot i next)
+  known-stops : (l : Lookup) (i : Insn) (next : Option Insn) → Stops slot (known filter l slot i next)
   known-stops Unknown i next = given slot (Refusal.UnknownOpcode (at slot)) refl (omega arith) (omega arith)
   known-stops Unimplemented i next = given slot (Refusal.Unimplemented (at slot)) refl (omega arith) (omega arith)
   known-stops (Known k) i next = taken-stops k i (operand_of filter k slot i next) (operand-lacks k i next)
 
-  read-stops : (r next : Read) → Stops slot (step_read filter slot r next)
-  read-stops Torn next = given slot (Refusal.Torn (at slot)) refl (omega arith) (omega arith)
-  read-stops (Whole i) next = by (good_registers i)
+  read-stops : (r next : Option Insn) → Stops slot (step_read filter slot r next)
+  read-stops None next = given slot (Refusal.Torn (at slot)) refl (omega arith) (omega arith)
+  read-stops (Some i) next = by (good_registers i)
     where
       by : (t : Bool) → Stops slot (pick t (known filter (kind_of i.opc) slot i next) (stop (Refusal.BadRegister (at slot))))
       by true = known-stops (kind_of i.opc) i next

@@ -1,25 +1,19 @@
 -- The whole translation: for every program, mode, pair of flags, helper lists, and lengths of the code buffer and the five tables either the
 -- finished code with the first entries of three tables, or one refusal; what the other two hold is said by JumpTables.antt. Document 01
 -- gives the order: the sizes, then the slots from 0 upward, then the epilogue, then the targets.
-use Rattle.std.specs.Prelude.{Bool, true, false, ◌&&◌, ◌||◌, not, List, [], ◌∷◌, ◌++◌, ℕ, zero, suc, ◌+◌, ◌*◌, ◌/◌, ◌^◌, leb, ltb, eqb, length}
+use Rattle.std.specs.Prelude.{Bool, true, false, ◌&&◌, ◌||◌, not, List, [], ◌∷◌, ◌++◌, ℕ, zero, suc, ◌+◌, ◌*◌, ◌/◌, ◌^◌, leb, ltb, eqb, length, Option, Some, None}
 use Rattle.base.specs.Pick.{pick}
 use Rattle.base.specs.declared.Slot.{Slot}
 use Rattle.ebpf.specs.Insn.{read_at}
 use Rattle.ebpf.specs.Opcode.{kind_of}
 use Rattle.ebpf.specs.declared.insn.Insn.{Insn}
-use Rattle.ebpf.specs.declared.insn.Read.{Read}
-use Rattle.ebpf.specs.declared.insn.Read.TheVariants.{Whole, Torn}
 use Rattle.ebpf.specs.declared.kind.Kind.{Kind}
 use Rattle.ebpf.specs.declared.kind.Kind.TheVariants.{LdAbs, LdInd, LdDwImm, LdReg, StImm, StReg, Alu, Shift, Neg, MulDivMod, Mov, Le, Be, Ja, Jump as JumpIf, Call, Exit}
 use Rattle.ebpf.specs.declared.kind.Lookup.{Lookup}
 use Rattle.ebpf.specs.declared.kind.Lookup.TheVariants.{Known, Unimplemented, Unknown}
 use Rattle.jit.specs.declared.Flags.{Flags}
 use Rattle.jit.specs.declared.Mode.{Mode}
-use Rattle.jit.specs.declared.Helper.{Helper}
-use Rattle.jit.specs.declared.Helper.TheVariants.{Address, Missing}
 use Rattle.jit.specs.declared.Refusal.{Refusal}
-use Rattle.jit.specs.declared.Bad.{Bad}
-use Rattle.jit.specs.declared.Bad.TheVariants.{Nowhere, At}
 use Rattle.x86.specs.Instr.{Plain, Jump}
 use Rattle.x86.specs.Encode.{isa}
 use Rattle.x86.specs.Code.{size, targets_of}
@@ -57,13 +51,13 @@ abbrev pub at : ℕ → Slot
 at s = record { number = s }
 
 -- the address that is listed beside an id
-abbrev pub found : Bool → ℕ → Helper → Helper
-found true a h = Address a
+abbrev pub found : Bool → ℕ → Option ℕ → Option ℕ
+found true a h = Some a
 found false a h = h
 
-unfoldable pub helper_of : (ids addresses : List ℕ) → (id : ℕ) → Helper
-helper_of [] addresses id = Missing
-helper_of (x ∷ ids) [] id = Missing
+unfoldable pub helper_of : (ids addresses : List ℕ) → (id : ℕ) → Option ℕ
+helper_of [] addresses id = None
+helper_of (x ∷ ids) [] id = None
 helper_of (x ∷ ids) (a ∷ addresses) id = found (eqb x id) a (helper_of ids addresses id)
 
 -- One slot: the instructions of one slot, or of two.
@@ -97,9 +91,9 @@ pub data Operand : Type 0 where
   lacks : Refusal → Operand
   has : (value : ℕ) → Operand
 
-abbrev pub wide_value : ℕ → Insn → Read → Operand
-wide_value slot i Torn = lacks (Refusal.Torn (at slot))
-wide_value slot i (Whole j) = has (i.imm + 2 ^ 32 * j.imm)
+abbrev pub wide_value : ℕ → Insn → Option Insn → Operand
+wide_value slot i None = lacks (Refusal.Torn (at slot))
+wide_value slot i (Some j) = has (i.imm + 2 ^ 32 * j.imm)
 
 abbrev pub swap_bits : ℕ → Bool
 swap_bits bits = eqb bits 16 || (eqb bits 32 || eqb bits 64)
@@ -111,9 +105,9 @@ le_bits m bits = pick m.standard (swap_bits bits) true
 abbrev pub swap_value : Bool → ℕ → Operand
 swap_value known slot = pick known (has 0) (lacks (Refusal.BadSwap (at slot)))
 
-abbrev pub helper_value : ℕ → Helper → Operand
-helper_value slot (Address a) = has a
-helper_value slot Missing = lacks (Refusal.UnknownHelper (at slot))
+abbrev pub helper_value : ℕ → Option ℕ → Operand
+helper_value slot (Some a) = has a
+helper_value slot None = lacks (Refusal.UnknownHelper (at slot))
 
 -- src 0 is a helper by its id, src 1 a call within the program
 abbrev pub call_value : (ids addresses : List ℕ) → ℕ → Insn → Operand
@@ -122,7 +116,7 @@ call_value ids addresses slot i =
     (pick (eqb i.src 1) (has 0) (lacks (Refusal.BadCall (at slot))))
 
 -- `next` is what reading the next slot gives
-abbrev pub operand_of : Filter → Kind → ℕ → Insn → (next : Read) → Operand
+abbrev pub operand_of : Filter → Kind → ℕ → Insn → (next : Option Insn) → Operand
 operand_of filter (LdAbs z) slot i next = has 0
 operand_of filter (LdInd z) slot i next = has 0
 operand_of filter LdDwImm slot i next = wide_value slot i next
@@ -149,7 +143,7 @@ abbrev pub taken : Mode → Kind → ℕ → Insn → Operand → Step
 taken m k slot i (lacks r) = stop r
 taken m k slot i (has value) = go (block_of m k slot i value)
 
-abbrev pub known : Filter → Lookup → ℕ → Insn → (next : Read) → Step
+abbrev pub known : Filter → Lookup → ℕ → Insn → (next : Option Insn) → Step
 known filter Unknown slot i next = stop (Refusal.UnknownOpcode (at slot))
 known filter Unimplemented slot i next = stop (Refusal.Unimplemented (at slot))
 known filter (Known k) slot i next = taken filter.mode k slot i (operand_of filter k slot i next)
@@ -158,9 +152,9 @@ abbrev pub good_registers : Insn → Bool
 good_registers i = leb i.dst 10 && leb i.src 10
 
 -- in this order: its bytes (6), its registers (7), its opcode (8, 9) and what that brings (10, 11, 12, or 6 for the second half)
-abbrev pub step_read : Filter → ℕ → Read → (next : Read) → Step
-step_read filter slot Torn next = stop (Refusal.Torn (at slot))
-step_read filter slot (Whole i) next =
+abbrev pub step_read : Filter → ℕ → Option Insn → (next : Option Insn) → Step
+step_read filter slot None next = stop (Refusal.Torn (at slot))
+step_read filter slot (Some i) next =
     pick (good_registers i) (known filter (kind_of i.opc) slot i next) (stop (Refusal.BadRegister (at slot)))
 
 unfoldable pub step_at : (filter : Filter) → ℕ → Step
@@ -193,16 +187,16 @@ rest (suc fuel) filter page slot place =
     (done [])
 
 -- A recorded target is a slot, or n, or the anchor. The first that is none of these is refused at the slot of its jump (14).
-abbrev pub or_else : Bad → Bad → Bad
-or_else Nowhere b = b
-or_else (At s) b = At s
+abbrev pub or_else : Option Slot → Option Slot → Option Slot
+or_else None b = b
+or_else (Some s) b = Some s
 
-abbrev pub bad_in : (n slot : ℕ) → (targets : List ℕ) → Bad
-bad_in n slot [] = Nowhere
-bad_in n slot (t ∷ ts) = pick (good_target n t) (bad_in n slot ts) (At (at slot))
+abbrev pub bad_in : (n slot : ℕ) → (targets : List ℕ) → Option Slot
+bad_in n slot [] = None
+bad_in n slot (t ∷ ts) = pick (good_target n t) (bad_in n slot ts) (Some (at slot))
 
-abbrev pub first_bad : (n slot : ℕ) → List Block → Bad
-first_bad n slot [] = Nowhere
+abbrev pub first_bad : (n slot : ℕ) → List Block → Option Slot
+first_bad n slot [] = None
 first_bad n slot (b ∷ bs) = or_else (bad_in n slot (targets_of b.code)) (first_bad n (slot + slots_wide b.wide) bs)
 
 -- The finished code, the locations 0 to n, and the fields and targets of the jumps in the order emitted, the prologue's first.
@@ -223,9 +217,9 @@ locations f bs = pages.locations isa (page_of f bs)
 abbrev pub accepted : Flags → List Block → Outcome
 accepted f bs = let page = page_of f bs in yes (pages.page_code isa page) (locations f bs) (pages.field_table isa page) (pages.target_table isa page)
 
-abbrev pub unless_bad : Bad → Outcome → Outcome
-unless_bad Nowhere o = o
-unless_bad (At s) o = no (Refusal.BadTarget s)
+abbrev pub unless_bad : Option Slot → Outcome → Outcome
+unless_bad None o = o
+unless_bad (Some s) o = no (Refusal.BadTarget s)
 
 abbrev pub finish : Flags → (n page : ℕ) → Walk → Outcome
 finish f n page (refused r) = no r

@@ -76,17 +76,3 @@ pub enum Refusal {
     // The first jump whose target is neither 0 to n nor the exit.
     BadTarget(Slot),
 }
-
-// A helper's address, where its id is listed.
-#[derive(Clone, Copy)]
-pub enum Helper {
-    Address(u64),
-    Missing,
-}
-
-// The slot of the first jump that goes nowhere, if there is one.
-#[derive(Clone, Copy)]
-pub enum Bad {
-    Nowhere,
-    At(Slot),
-}

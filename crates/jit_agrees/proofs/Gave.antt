@@ -1,4 +1,5 @@
 -- What it says of a slot that its step gave a block (`step_at`): its registers are good, its operand is there, and the block has its code.
+use Rattle.std.proofs.Common.{Some}
 use mathlib.Core.Path.{◌≡◌, refl}
 use mathlib.Core.Bool.{Bool, true, false}
 use Prim.Native.Nat.{ℕ, ◌+◌}
@@ -9,7 +10,6 @@ use Rattle.base.proofs.Tests.{true-T}
 use Rattle.ebpf.specs.Insn.{read_at}
 use Rattle.ebpf.specs.Opcode.{kind_of}
 use Rattle.ebpf.specs.declared.insn.Insn.{Insn}
-use Rattle.ebpf.specs.declared.insn.Read.TheVariants.{Whole}
 use Rattle.ebpf.specs.declared.kind.Kind.{Kind}
 use Rattle.ebpf.specs.declared.kind.Kind.TheVariants.{Le, Be}
 use Rattle.ebpf.specs.declared.kind.Lookup.TheVariants.{Known}
@@ -28,7 +28,7 @@ module _ (filter : Filter) (slot : ℕ) (i : Insn) (k : Kind) where
     pub good : T (good_registers i)
     pub has-operand : operand ≡ has value
 
-  pub gave : (b : Block) → read_at filter.program slot ≡ Whole i → kind_of i.opc ≡ Known k → step_at filter slot ≡ go b → Gave b
+  pub gave : (b : Block) → read_at filter.program slot ≡ Some i → kind_of i.opc ≡ Known k → step_at filter slot ≡ go b → Gave b
   unfolding step_at
   gave b read kind e = by (good_registers i) operand refl refl (rw (read, kind) at e)
     where

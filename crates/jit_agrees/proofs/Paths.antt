@@ -1,5 +1,6 @@
 -- A path of slots, one RFC 9669's step after the other: from its first slot's start the page comes to its last one's, with the registers that
 -- the steps leave.
+use Rattle.std.proofs.Common.{Some}
 use mathlib.Core.Path.{◌≡◌}
 use mathlib.Core.Logic.{◌≢◌}
 use mathlib.Core.Bool.{true}
@@ -9,7 +10,6 @@ use lib.ListN.{get_or}
 use Rattle.ebpf.specs.Insn.{read_at}
 use Rattle.ebpf.specs.Opcode.{kind_of}
 use Rattle.ebpf.specs.declared.insn.Insn.{Insn}
-use Rattle.ebpf.specs.declared.insn.Read.TheVariants.{Whole}
 use Rattle.ebpf.specs.declared.kind.Kind.{Kind}
 use Rattle.ebpf.specs.declared.kind.Lookup.TheVariants.{Known}
 use Rattle.ebpf_meaning.specs.Step.{other, act, regs_behind, next_slot}
@@ -22,7 +22,7 @@ use Rattle.jit_agrees.proofs.RunsLaws.{sooner, leads-then}
 -- from a slot with registers to a slot with registers, every slot on the way being one of which the step speaks, and beginning somewhere
 pub data Path (program locs : List ℕ) : (slot : ℕ) (r : List ℕ) (last : ℕ) (q : List ℕ) → Type 0 where
   here : {slot : ℕ} {r : List ℕ} → Path program locs slot r slot r
-  on : {slot last : ℕ} {r q : List ℕ} (i : Insn) (k : Kind) → read_at program slot ≡ Whole i → kind_of i.opc ≡ Known k → act k i r ≢ other
+  on : {slot last : ℕ} {r q : List ℕ} (i : Insn) (k : Kind) → read_at program slot ≡ Some i → kind_of i.opc ≡ Known k → act k i r ≢ other
       → get_or locs (next_slot slot (act k i r)) 0 ≢ 0 → Path program locs (next_slot slot (act k i r)) (regs_behind i r (act k i r)) last q
       → Path program locs slot r last q
 

@@ -2,6 +2,7 @@
 -- `jump-astray`, which are wrong, is one that `translation_of` gives, and is written out. The mode: in the Rust's, MOD32_REG, MOV32_REG and
 -- LE 16 do not do what RFC 9669 says. The run: a pop that gives another word than was pushed, and a push that faults. The slot: one that goes
 -- to location 0, and one whose own location that is. The registers: that they are eleven, and words.
+use Rattle.std.proofs.Common.{Some}
 use mathlib.Core.Path.{◌≡◌, refl}
 use mathlib.Core.Logic.{◌≢◌}
 use mathlib.Core.Bool.{true, false}
@@ -16,7 +17,6 @@ use Rattle.base.specs.declared.Width.TheVariants.{W32, W64}
 use Rattle.ebpf.specs.Insn.{insn_at, read_at}
 use Rattle.ebpf.specs.Opcode.{kind_of}
 use Rattle.ebpf.specs.declared.insn.Insn.{Insn}
-use Rattle.ebpf.specs.declared.insn.Read.TheVariants.{Whole}
 use Rattle.ebpf.specs.declared.kind.Source.TheVariants.{Imm, Reg}
 use Rattle.ebpf.specs.declared.kind.MulOp.TheVariants.{Div, Mod}
 use Rattle.ebpf.specs.declared.kind.Kind.{Kind}
@@ -83,7 +83,7 @@ Gives m program slots l f t = translation_of (asking m program) ≡ yes (page sl
 
 -- THE MODE. Slot 0 and EXIT, in the Rust's: the page is accepted, and does not agree.
 module _ (program slots locs : List ℕ) (k : Kind) (i : Insn) (r : List ℕ) where
-  disagrees : read_at program 0 ≡ Whole i → kind_of i.opc ≡ Known k → get_or locs 0 0 ≢ 0 → T (refutes (page slots) locs 0 k i r true)
+  disagrees : read_at program 0 ≡ Some i → kind_of i.opc ≡ Known k → get_or locs 0 0 ≢ 0 → T (refutes (page slots) locs 0 k i r true)
       → Agrees program (page slots) locs → ⊥
   disagrees a b c t h = refuted (page slots) locs 0 k i r true t (h 0 i k a b c)
 
@@ -200,7 +200,7 @@ abbrev wide_slots : List ℕ
 wide_slots = 0x48 ∷ 0xc7 ∷ 0xc0 ∷ 0x00 ∷ 0x00 ∷ 0x00 ∷ 0x00 ∷ 0xc3 ∷ []
 
 pub second-half : Gives standard wide wide_slots (34 ∷ 0 ∷ 41 ∷ 0 ∷ []) (30 ∷ []) (anchor ∷ [])
-    × ((read_at wide 1 ≡ Whole (fields 0xb7 0 0)) × (Does (page wide_slots) (34 ∷ 0 ∷ 41 ∷ 0 ∷ []) 1 (Mov W64 Imm) (fields 0xb7 0 0) → ⊥))
+    × ((read_at wide 1 ≡ Some (fields 0xb7 0 0)) × (Does (page wide_slots) (34 ∷ 0 ∷ 41 ∷ 0 ∷ []) 1 (Mov W64 Imm) (fields 0xb7 0 0) → ⊥))
 unfolding insn_at read_at kind_of reg_of target_of rex modrm saves argument enter prologue epilogue step_at rest good_target sizes_of translation_of
     load_imm decode with_rex rex_of opcode with_modrm reg_number low_number number rd result follow step
 second-half = (refl, (refl, refuted (page wide_slots) (34 ∷ 0 ∷ 41 ∷ 0 ∷ []) 1 (Mov W64 Imm) (fields 0xb7 0 0) (holding 0 0) true tt))

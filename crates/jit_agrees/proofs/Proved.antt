@@ -1,5 +1,6 @@
 -- Proved: the code of every page that is accepted in standard mode, compact or not, does what its slots say (specs/Agrees.antt); and so it does
 -- slot after slot (specs/Follows.antt).
+use Rattle.std.proofs.Common.{Some, None}
 use mathlib.Core.Path.{◌≡◌, refl, ap, sym, ◌∙◌, subst}
 use mathlib.Core.Logic.{◌≢◌}
 use mathlib.Core.Bool.{Bool, true, false}
@@ -13,7 +14,6 @@ use Rattle.base.proofs.Tests.{true-T, and_l, and_r, leb_no}
 use Rattle.ebpf.specs.Insn.{insn_at, read_at}
 use Rattle.ebpf.specs.Opcode.{kind_of}
 use Rattle.ebpf.specs.declared.insn.Insn.{Insn}
-use Rattle.ebpf.specs.declared.insn.Read.TheVariants.{Whole, Torn}
 use Rattle.ebpf.specs.declared.kind.Kind.{Kind}
 use Rattle.ebpf.specs.declared.kind.Kind.TheVariants.{Le}
 use Rattle.ebpf.specs.declared.kind.Lookup.TheVariants.{Known}
@@ -48,11 +48,11 @@ use Rattle.jit_agrees.proofs.Gave.{Gave, gave, le-fine, be-fine}
 use Rattle.jit_agrees.proofs.OnPage.{narrow, does}
 
 -- the slot's immediate has 32 bits
-imm-small : (x : Inputs) → Given x → (slot : ℕ) (i : Insn) → read_at x.filter.program slot ≡ Whole i → i.imm < 2 ^ 32
+imm-small : (x : Inputs) → Given x → (slot : ℕ) (i : Insn) → read_at x.filter.program slot ≡ Some i → i.imm < 2 ^ 32
 unfolding read_at
 imm-small x given slot i e = by (ltb (length x.filter.program) (8 * slot + 8)) e
   where
-    by : (t : Bool) → pick t Torn (Whole (insn_at x.filter.program slot)) ≡ Whole i → i.imm < 2 ^ 32
+    by : (t : Bool) → pick t None (Some (insn_at x.filter.program slot)) ≡ Some i → i.imm < 2 ^ 32
     by true e = let z : ◌≡◌ {A = ℕ} 0 1 = cc in absurd (omega arith)
     by false e = let same : insn_at x.filter.program slot ≡ i = cc in subst (λ (i : Insn). i.imm < 2 ^ 32) same (imm_lt x given slot)
 
@@ -64,7 +64,7 @@ pub record Standard (m : Mode) (slot : ℕ) (i : Insn) (k : Kind) : Type 0 where
 -- Of an accepted program's parts, such a slot that begins somewhere.
 module _ (x : Inputs) (given : Given x) {code locs fields targets : List ℕ} (p : Parts x code locs fields targets)
     (few : slots_of x.filter.program ≤ most_slots) (slot : ℕ) (i : Insn) (k : Kind) (std : Standard x.filter.mode slot i k)
-    (read : read_at x.filter.program slot ≡ Whole i) (kind : kind_of i.opc ≡ Known k)
+    (read : read_at x.filter.program slot ≡ Some i) (kind : kind_of i.opc ≡ Known k)
     (there : get_or (locations x.flags p.blocks) slot 0 ≢ 0) where
   abbrev bs : List Block
   bs = p.blocks
@@ -106,7 +106,7 @@ module _ (x : Inputs) (given : Given x) {code locs fields targets : List ℕ} (p
           of-block q v e (gave x.filter slot i k v.block read kind (subst (λ (n : ℕ). step_at x.filter n ≡ go v.block) here o.step))
 
 module _ (x : Inputs) (given : Given x) (code locs fields targets : List ℕ) (e : translation_of x ≡ yes code locs fields targets) where
-  of-standard : (slot : ℕ) (i : Insn) (k : Kind) → Standard x.filter.mode slot i k → read_at x.filter.program slot ≡ Whole i
+  of-standard : (slot : ℕ) (i : Insn) (k : Kind) → Standard x.filter.mode slot i k → read_at x.filter.program slot ≡ Some i
       → kind_of i.opc ≡ Known k → get_or locs slot 0 ≢ 0 → Does code locs slot k i
   of-standard slot i k std read kind there =
       let b : Bound x (yes code locs fields targets) = rw e at (bounds x) in
@@ -124,7 +124,7 @@ module _ (x : Inputs) (given : Given x) (code locs fields targets : List ℕ) (e
       of-standard slot i k (record { code = λ value. ap (λ (b : Bool). block_in b slot i k value) std; le = λ z. std }) read kind there
 
   -- In every mode so does a slot that standard mode does not change: all but MOD32 by a register or by 0, MOV32_REG and LE.
-  pub unnamed-does : (slot : ℕ) (i : Insn) (k : Kind) → named k i ≡ false → read_at x.filter.program slot ≡ Whole i
+  pub unnamed-does : (slot : ℕ) (i : Insn) (k : Kind) → named k i ≡ false → read_at x.filter.program slot ≡ Some i
       → kind_of i.opc ≡ Known k → get_or locs slot 0 ≢ 0 → Does code locs slot k i
   unnamed-does slot i k same read kind there =
       of-standard slot i k (record { code = λ value. by x.filter.mode.standard value; le = λ z. never (rw z at same) }) read kind there
@@ -160,7 +160,7 @@ follows-all program code locs h n slot r s a = follows program code locs h s n s
 
 -- .. and of one slot it says no less than Agrees.antt does, if the next slot begins somewhere
 pub follows-one : (program code locs : List ℕ) → FollowsAll program code locs → (slot : ℕ) (i : Insn) (k : Kind)
-    → read_at program slot ≡ Whole i → kind_of i.opc ≡ Known k → get_or locs slot 0 ≢ 0 → (r : List ℕ) (s : State) → act k i r ≢ other
+    → read_at program slot ≡ Some i → kind_of i.opc ≡ Known k → get_or locs slot 0 ≢ 0 → (r : List ℕ) (s : State) → act k i r ≢ other
     → Mapped r s.regs → s.pos ≡ get_or locs slot 0 → get_or locs (next_slot slot (act k i r)) 0 ≢ 0
     → Leads code (Behind code locs slot i r (act k i r) s) (s.regs RSP) (may_be_empty (act k i r)) [] s
 follows-one program code locs h slot i k read kind there r s speaks m e begins =

@@ -12,11 +12,10 @@
 --     page's first byte;
 --   the fall from the last slot, behind which slot n has the location 0: it goes on into the epilogue, but DIV and MOD by a register that is
 --     zero to the page's first byte.
-use Rattle.std.specs.Prelude.{◌≡◌, ◌≢◌, Bool, true, false, List, [], ℕ, ◌+◌, ◌<◌, ◌^◌, length, get_or}
+use Rattle.std.specs.Prelude.{◌≡◌, ◌≢◌, Bool, true, false, List, [], ℕ, ◌+◌, ◌<◌, ◌^◌, length, get_or, Some}
 use Rattle.ebpf.specs.Insn.{read_at}
 use Rattle.ebpf.specs.Opcode.{kind_of}
 use Rattle.ebpf.specs.declared.insn.Insn.{Insn}
-use Rattle.ebpf.specs.declared.insn.Read.TheVariants.{Whole}
 use Rattle.ebpf.specs.declared.kind.Kind.{Kind}
 use Rattle.ebpf.specs.declared.kind.Lookup.TheVariants.{Known}
 use Rattle.ebpf_meaning.specs.Step.{Act, writes, branches, other, act, regs_behind, next_slot}
@@ -66,4 +65,4 @@ Does code locs slot k i =
 -- .. and so does that of every slot of the program, a wide load's second half aside, whose location is 0
 abbrev pub Agrees : (program code locs : List ℕ) → Type 0
 Agrees program code locs =
-    (slot : ℕ) (i : Insn) (k : Kind) → read_at program slot ≡ Whole i → kind_of i.opc ≡ Known k → get_or locs slot 0 ≢ 0 → Does code locs slot k i
+    (slot : ℕ) (i : Insn) (k : Kind) → read_at program slot ≡ Some i → kind_of i.opc ≡ Known k → get_or locs slot 0 ≢ 0 → Does code locs slot k i

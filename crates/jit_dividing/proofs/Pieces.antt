@@ -1,6 +1,7 @@
 -- An operation on registers in its pieces: the divisor's guard, what is saved, the second operand, and the rest; and what standard mode puts
 -- ahead of an operation.
-use mathlib.Core.Path.{◌≡◌, ◌∙◌, ap}
+use mathlib.Core.Path.{◌≡◌, ◌∙◌, refl, ap}
+use mathlib.Core.Logic.{◌⊎◌, inl, inr}
 use mathlib.Core.List.{List, [], ◌∷◌}
 use Prim.Native.Nat.{ℕ, ◌+◌}
 use native.Mathlib.Omega.{arith}
@@ -20,7 +21,8 @@ use Rattle.x86.specs.Fill.{blanks}
 use Rattle.x86.proofs.CodeLaws.{size-append, blanks-append, length-blanks}
 use Rattle.x86_emit.specs.Wrote.{Wrote}
 use Rattle.x86_emit.proofs.WroteLaws.{then}
-use Rattle.jit.specs.MulDivMod.{Code, guard, saves, operated, computed, mul_div_mod_reg}
+use Rattle.ebpf.specs.declared.kind.MulOp.TheVariants.{Div, Mod}
+use Rattle.jit.specs.MulDivMod.{Code, guard, saves, operate, operated, computed, mul_div_mod_reg}
 use Rattle.jit.specs.declared.Mode.{Mode}
 use Rattle.jit.specs.Slots.{cleared, mul_div_mod_code, slot_code}
 use Rattle.jit.proofs.SlotSize.{computed-none, cleared-jumps}
@@ -57,6 +59,11 @@ module _ (m : Mode) (o : MulOp) (slot : ℕ) (w : Width) (src dst : ℕ) where
   pieces g s v r =
       let none = empty (targets_of unguarded) (computed-none o w (op (alu MOV W64 src RCX) ∷ []) dst (omega arith)) in
       emits_then guarded unguarded g (plainly unguarded none (rw (blanks-append (saves dst) moved) (then s (then v r))))
+
+-- DIV and MOD are one instruction
+pub divides : (o : MulOp) (w : Width) → (o ≡ Div) ⊎ (o ≡ Mod) → operate o w ≡ operate Div w
+divides o w (inl e) = rw e refl
+divides o w (inr e) = rw e refl
 
 -- what standard mode puts ahead, and the operation
 module _ (m : Mode) (o : MulOp) (w : Width) (s : Source) (slot : ℕ) (i : Insn) where

@@ -15,8 +15,8 @@ use base::{Position, Slot, Width};
 use ebpf::insn::Insn;
 use ebpf::kind::{MulOp, Source};
 use jit::Mode;
-use jit_recording::emission::Emission;
-use jit_recording::{constant, emission, mode, register};
+use jit_recording::emission::JumpTables;
+use jit_recording::{constant, mode, register};
 use x86::{GROUP3, GROUP3_DIV, GROUP3_MUL, JE, JNE, MOV, RAX, RCX, RDX, TEST, XOR};
 use x86_emit::{alu, jump};
 
@@ -57,11 +57,7 @@ fn emit_saves(code: &mut [u8], at: Position, dst: u8) -> Position
 fn from_rax(op: MulOp) -> bool
     ensures { result ≡ from_rax op }
 {
-    match op {
-        MulOp::Mul => true,
-        MulOp::Div => true,
-        MulOp::Mod => false,
-    }
+    !matches!(op, MulOp::Mod)
 }
 
 fn emit_restores(code: &mut [u8], at: Position, op: MulOp, dst: u8) -> Position
@@ -79,11 +75,7 @@ fn emit_operate(code: &mut [u8], at: Position, op: MulOp, width: Width) -> Posit
 {
     match op {
         MulOp::Mul => alu::emit_alu_ext(code, at, width, GROUP3, GROUP3_MUL, RCX),
-        MulOp::Div => {
-            let cleared = alu::emit_alu(code, at, Width::W32, XOR, RDX, RDX);
-            alu::emit_alu_ext(code, cleared, width, GROUP3, GROUP3_DIV, RCX)
-        }
-        MulOp::Mod => {
+        MulOp::Div | MulOp::Mod => {
             let cleared = alu::emit_alu(code, at, Width::W32, XOR, RDX, RDX);
             alu::emit_alu_ext(code, cleared, width, GROUP3, GROUP3_DIV, RCX)
         }
@@ -106,8 +98,7 @@ fn emit_by_zero(code: &mut [u8], at: Position, op: MulOp, dst: u8) -> Position
     ensures { Wrote code at result (blanks (by_zero op dst)) }
 {
     match op {
-        MulOp::Mul => alu::emit_alu(code, at, Width::W32, XOR, dst, dst),
-        MulOp::Div => alu::emit_alu(code, at, Width::W32, XOR, dst, dst),
+        MulOp::Mul | MulOp::Div => alu::emit_alu(code, at, Width::W32, XOR, dst, dst),
         MulOp::Mod => at,
     }
 }
@@ -153,172 +144,120 @@ fn skip_of(slot: Slot, dst: u8) -> u32
     requires { dst < 16 }
     ensures { result ≡ size (div_by_zero slot.number dst) }
 {
-    if dst < 8 {
-        return 7;
-    }
-    8
+    if dst < 8 { 7 } else { 8 }
 }
 
 // DIV: no division by zero skips the next two instructions; they clear dst and go to the next slot.
 fn emit_div_guard(
     code: &mut [u8],
-    fields: &mut [u32],
-    targets: &mut [u32],
-    kinds: &mut [u32],
-    makers: &mut [u32],
-    e: Emission,
+    at: Position,
+    jumps: &mut JumpTables<'_>,
     mode: Mode,
     slot: Slot,
     width: Width,
     src: u8,
     dst: u8,
-) -> Emission
-    requires room { Room code fields targets kinds makers e (guard mode Div slot.number width src dst) }
+) -> Position
+    requires room { Room code at jumps (guard mode Div slot.number width src dst) }
     requires src_bound { (src < 16) × ((dst < 16) × (slot.number < 2 ^ 16)) }
-    ensures { Emits code fields targets kinds makers e result slot (guard mode Div slot.number width src dst) }
+    ensures { Emits code at result jumps slot (guard mode Div slot.number width src dst) }
 {
-    let checked = emit_tested(code, e.at, mode, slot, width, src);
+    let checked = emit_tested(code, at, mode, slot, width, src);
     let branched = jump::emit_jcc(code, checked, JNE, skip_of(slot, dst));
     let cleared = alu::emit_alu(code, branched, Width::W32, XOR, dst, dst);
     let next = jump::emit_jmp(code, cleared, 0);
-    emission::record_jump(
-        fields,
-        targets,
-        kinds,
-        makers,
-        next,
-        e.jumps,
-        slot.number as u32 + 1,
-        jit::PLAIN,
-        slot,
-    )
+    jumps.record_jump(next, slot.number as u32 + 1, jit::PLAIN, slot);
+    next
 }
 
 // MOD: a zero divisor goes to the next slot at once.
 fn emit_mod_guard(
     code: &mut [u8],
-    fields: &mut [u32],
-    targets: &mut [u32],
-    kinds: &mut [u32],
-    makers: &mut [u32],
-    e: Emission,
+    at: Position,
+    jumps: &mut JumpTables<'_>,
     mode: Mode,
     slot: Slot,
     width: Width,
     src: u8,
     dst: u8,
-) -> Emission
-    requires room { Room code fields targets kinds makers e (guard mode Mod slot.number width src dst) }
+) -> Position
+    requires room { Room code at jumps (guard mode Mod slot.number width src dst) }
     requires src_bound { (src < 16) × (slot.number < 2 ^ 16) }
-    ensures { Emits code fields targets kinds makers e result slot (guard mode Mod slot.number width src dst) }
+    ensures { Emits code at result jumps slot (guard mode Mod slot.number width src dst) }
 {
-    let checked = emit_tested(code, e.at, mode, slot, width, src);
+    let checked = emit_tested(code, at, mode, slot, width, src);
     let next = jump::emit_jcc(code, checked, JE, 0);
-    emission::record_jump(
-        fields,
-        targets,
-        kinds,
-        makers,
-        next,
-        e.jumps,
-        slot.number as u32 + 1,
-        jit::CONDITIONAL,
-        slot,
-    )
+    jumps.record_jump(next, slot.number as u32 + 1, jit::CONDITIONAL, slot);
+    next
 }
 
 // The divisor of DIV and MOD is tested; MUL has none.
 fn emit_guard(
     code: &mut [u8],
-    fields: &mut [u32],
-    targets: &mut [u32],
-    kinds: &mut [u32],
-    makers: &mut [u32],
-    e: Emission,
+    at: Position,
+    jumps: &mut JumpTables<'_>,
     mode: Mode,
     op: MulOp,
     slot: Slot,
     width: Width,
     src: u8,
     dst: u8,
-) -> Emission
-    requires room { Room code fields targets kinds makers e (guard mode op slot.number width src dst) }
+) -> Position
+    requires room { Room code at jumps (guard mode op slot.number width src dst) }
     requires src_bound { (src < 16) × ((dst < 16) × (slot.number < 2 ^ 16)) }
-    ensures { Emits code fields targets kinds makers e result slot (guard mode op slot.number width src dst) }
+    ensures { Emits code at result jumps slot (guard mode op slot.number width src dst) }
 {
     match op {
-        MulOp::Mul => e,
-        MulOp::Div => emit_div_guard(
-            code, fields, targets, kinds, makers, e, mode, slot, width, src, dst,
-        ),
-        MulOp::Mod => emit_mod_guard(
-            code, fields, targets, kinds, makers, e, mode, slot, width, src, dst,
-        ),
+        MulOp::Mul => at,
+        MulOp::Div => emit_div_guard(code, at, jumps, mode, slot, width, src, dst),
+        MulOp::Mod => emit_mod_guard(code, at, jumps, mode, slot, width, src, dst),
     }
 }
 
 pub fn emit_muldivmod_reg(
     code: &mut [u8],
-    fields: &mut [u32],
-    targets: &mut [u32],
-    kinds: &mut [u32],
-    makers: &mut [u32],
-    e: Emission,
+    at: Position,
+    jumps: &mut JumpTables<'_>,
     mode: Mode,
     op: MulOp,
     slot: Slot,
     width: Width,
     src: u8,
     dst: u8,
-) -> Emission
-    requires room { Room code fields targets kinds makers e (mul_div_mod_reg mode op slot.number width src dst) }
+) -> Position
+    requires room { Room code at jumps (mul_div_mod_reg mode op slot.number width src dst) }
     requires src_bound { (src < 16) × ((dst < 16) × (slot.number < 2 ^ 16)) }
-    ensures { Emits code fields targets kinds makers e result slot (mul_div_mod_reg mode op slot.number width src dst) }
+    ensures { Emits code at result jumps slot (mul_div_mod_reg mode op slot.number width src dst) }
 {
-    let guarded = emit_guard(
-        code, fields, targets, kinds, makers, e, mode, op, slot, width, src, dst,
-    );
-    let saved = emit_saves(code, guarded.at, dst);
+    let guarded = emit_guard(code, at, jumps, mode, op, slot, width, src, dst);
+    let saved = emit_saves(code, guarded, dst);
     let loaded = alu::emit_alu(code, saved, Width::W64, MOV, src, RCX);
-    let done = emit_operated(code, loaded, op, width, dst);
-    Emission {
-        at: done,
-        jumps: guarded.jumps,
-    }
+    emit_operated(code, loaded, op, width, dst)
 }
 
 // All that the Rust has for the slot.
 fn emit_operation(
     code: &mut [u8],
-    fields: &mut [u32],
-    targets: &mut [u32],
-    kinds: &mut [u32],
-    makers: &mut [u32],
-    e: Emission,
+    at: Position,
+    jumps: &mut JumpTables<'_>,
     mode: Mode,
     op: MulOp,
     width: Width,
     source: Source,
     slot: Slot,
     i: Insn,
-) -> Emission
-    requires room { Room code fields targets kinds makers e (mul_div_mod_code mode op width source slot.number i) }
+) -> Position
+    requires room { Room code at jumps (mul_div_mod_code mode op width source slot.number i) }
     requires dst_bound { (i.dst < 11) × ((i.src < 11) × (slot.number < 2 ^ 16)) }
-    ensures { Emits code fields targets kinds makers e result slot (mul_div_mod_code mode op width source slot.number i) }
+    ensures { Emits code at result jumps slot (mul_div_mod_code mode op width source slot.number i) }
 {
     let dst = register::map_register(i.dst);
     match source {
-        Source::Imm => emission::onward(
-            e,
-            emit_muldivmod_imm(code, e.at, mode, op, width, dst, i.imm),
-        ),
+        Source::Imm => emit_muldivmod_imm(code, at, mode, op, width, dst, i.imm),
         Source::Reg => emit_muldivmod_reg(
             code,
-            fields,
-            targets,
-            kinds,
-            makers,
-            e,
+            at,
+            jumps,
             mode,
             op,
             slot,
@@ -351,38 +290,19 @@ fn emit_cleared(
 
 pub fn emit_muldivmod(
     code: &mut [u8],
-    fields: &mut [u32],
-    targets: &mut [u32],
-    kinds: &mut [u32],
-    makers: &mut [u32],
-    e: Emission,
+    at: Position,
+    jumps: &mut JumpTables<'_>,
     mode: Mode,
     op: MulOp,
     width: Width,
     source: Source,
     slot: Slot,
     i: Insn,
-) -> Emission
-    requires room { Room code fields targets kinds makers e (slot_code mode (MulDivMod op width source) slot.number i 0) }
+) -> Position
+    requires room { Room code at jumps (slot_code mode (MulDivMod op width source) slot.number i 0) }
     requires dst_bound { (i.dst < 11) × ((i.src < 11) × (slot.number < 2 ^ 16)) }
-    ensures { Emits code fields targets kinds makers e result slot (slot_code mode (MulDivMod op width source) slot.number i 0) }
+    ensures { Emits code at result jumps slot (slot_code mode (MulDivMod op width source) slot.number i 0) }
 {
-    let ready = emit_cleared(code, e.at, mode, op, width, source, i);
-    emit_operation(
-        code,
-        fields,
-        targets,
-        kinds,
-        makers,
-        Emission {
-            at: ready,
-            jumps: e.jumps,
-        },
-        mode,
-        op,
-        width,
-        source,
-        slot,
-        i,
-    )
+    let ready = emit_cleared(code, at, mode, op, width, source, i);
+    emit_operation(code, ready, jumps, mode, op, width, source, slot, i)
 }

@@ -1,33 +1,38 @@
 -- Refusals 1 to 5: the search for an id that is listed twice, the tests one by one, and that the definition begins with them.
+use Rattle.std.proofs.Common.{Result, Ok, Err}
 use mathlib.Core.Path.{◌≡◌, ◌∙◌, refl, ap, sym}
 use mathlib.Core.Bool.{Bool, true, false, not, ◌&&◌, ◌||◌}
 use mathlib.Core.List.{List, [], ◌∷◌}
-use Prim.Native.Nat.{ℕ, suc, ◌+◌, ◌-◌, ◌/◌, ◌<◌, ◌≤◌}
+use Prim.Native.Nat.{ℕ, zero, suc, ◌+◌, ◌-◌, ◌/◌, ◌<◌, ◌≤◌}
 use native.Mathlib.Numerals.{add-one}
 use native.Mathlib.Omega.{arith}
 use lib.Dec.{T, leb, ltb, eqb, ltb→lt}
 use lib.ListN.{length, length-drop, get_or, drop, drop_of_length-le}
 use lib.Seq.{drop-cons}
+use Rattle.std.proofs.Common.{take}
+use Rattle.std.proofs.Math.Seq.{take-length}
 use borrow.Author.Tests.{lt-ltb, le-ltb, eq-eqb, ne_eqb}
+use Rattle.std.specs.List.{IsAllAdjacentAnswer, list_any}
 use Rattle.base.specs.Pick.{pick}
 use Rattle.base.proofs.Tests.{true-T, and_l, and_r, or-false-l, or-false-r, leb_no}
 use Rattle.jit.specs.declared.Refusal.{Refusal}
 use Rattle.jit.specs.Limits.{shortest_page, longest_page, longest_program, most_helpers}
 use Rattle.jit.specs.Translation.{Inputs, slots_of, Outcome, no, listed, twice, bad_helpers, short_table, sizes_of}
-use Rattle.jit_walk.specs.declared.verdict.Verdict.{Verdict}
-use Rattle.jit_walk.specs.declared.verdict.Verdict.TheVariants.{Good, Not}
 use Rattle.jit_judging.specs.Sizes.{rising, sized, Sizes}
 
+-- the library's search for an id is the definition's
+pub listed-any : (id : ℕ) (ids : List ℕ) → list_any (λ x. eqb x id) ids ≡ listed id ids
+listed-any id [] = refl
+listed-any id (x ∷ ids) = ap (λ (b : Bool). eqb x id || b) (listed-any id ids)
+
+-- .. in the ids from one on
+pub contained : (ids : List ℕ) (k id : ℕ) {b : Bool} → b ≡ list_any (λ x. eqb x id) (take (length ids - k) (drop k ids)) → b ≡ listed id (drop k ids)
+contained ids k id e = e ∙ ap (λ (xs : List ℕ). list_any (λ x. eqb x id) xs) rest_is ∙ listed-any id (drop k ids)
+  where
+    rest_is : take (length ids - k) (drop k ids) ≡ drop k ids
+    rest_is = ap (λ n. take n (drop k ids)) (sym (length-drop k ids)) ∙ take-length (drop k ids)
+
 -- one id further
-pub listed-on : (ids : List ℕ) (id k : ℕ) → k < length ids → ¬ (get_or ids k 0 ≡ id) → listed id (drop k ids) ≡ listed id (drop (k + 1) ids)
-listed-on ids id k h n = rw (add-one k, drop-cons ids k 0 h, ne_eqb _ _ n)
-
-pub listed-hit : (ids : List ℕ) (id k : ℕ) → k < length ids → get_or ids k 0 ≡ id → listed id (drop k ids) ≡ true
-listed-hit ids id k h e = rw (drop-cons ids k 0 h, eq-eqb _ _ e)
-
-pub listed-end : (ids : List ℕ) (id k : ℕ) → length ids ≤ k → listed id (drop k ids) ≡ false
-listed-end ids id k h = rw (drop_of_length-le ids h)
-
 pub twice-on : (ids : List ℕ) (k : ℕ) {b : Bool} → k < length ids → b ≡ listed (get_or ids k 0) (drop (k + 1) ids) → b ≡ false
     → twice (drop k ids) ≡ twice (drop (k + 1) ids)
 twice-on ids k h e f =
@@ -43,24 +48,25 @@ twice-hit ids k h e f =
 pub twice-end : (ids : List ℕ) (k : ℕ) → length ids ≤ k → twice (drop k ids) ≡ false
 twice-end ids k h = rw (drop_of_length-le ids h)
 
--- of the ids from entry k - 1 on
-module _ (ids : List ℕ) (k : ℕ) (later : 1 ≤ k) (h : k < length ids) where
-  rising-pair : rising (drop (k - 1) ids) ≡ (ltb (get_or ids (k - 1) 0) (get_or ids k 0) && rising (drop k ids))
-  rising-pair = let e : suc (k - 1) ≡ k = omega arith in rw (drop-cons ids (k - 1) 0 (omega arith), e, drop-cons ids k 0 h)
+-- each id is above the one before it, or one is not
+rises : (ids : List ℕ) → ((k : ℕ) → suc k < length ids → ltb (get_or ids k 0) (get_or ids (suc k) 0) ≡ true) → rising ids ≡ true
+rises [] h = refl
+rises (x ∷ []) h = refl
+rises (x ∷ y ∷ ys) h = rw (h 0 (omega arith)) (rises (y ∷ ys) (λ k g. h (suc k) (omega (arith, g))))
 
-  pub rising-on : get_or ids (k - 1) 0 < get_or ids k 0 → rising (drop (k - 1) ids) ≡ rising (drop (k + 1 - 1) ids)
-  rising-on above = let e : k + 1 - 1 ≡ k = omega arith in rw e (rising-pair ∙ rw (lt-ltb _ _ above))
-
-  pub rising-fall : get_or ids k 0 ≤ get_or ids (k - 1) 0 → rising (drop (k - 1) ids) ≡ false
-  rising-fall below = rising-pair ∙ rw (le-ltb _ _ below)
-
-pub rising-end : (ids : List ℕ) (k : ℕ) → length ids ≤ k → rising (drop (k - 1) ids) ≡ true
-rising-end ids k h = short (drop (k - 1) ids) (rw length-drop (omega arith))
+falls : (ids : List ℕ) (k : ℕ) → suc k < length ids → ltb (get_or ids k 0) (get_or ids (suc k) 0) ≡ false → rising ids ≡ false
+falls [] k h e = absurd (omega (arith, h))
+falls (x ∷ []) k h e = absurd (omega (arith, h))
+falls (x ∷ y ∷ ys) zero h e = rw e
+falls (x ∷ y ∷ ys) (suc k) h e = rw (falls (y ∷ ys) k (omega (arith, h)) e) (no (ltb x y))
   where
-    short : (ids : List ℕ) → length ids ≤ 1 → rising ids ≡ true
-    short [] h = refl
-    short (x ∷ []) h = refl
-    short (x ∷ y ∷ ys) h = absurd (omega arith)
+    no : (b : Bool) → (b && false) ≡ false
+    no true = refl
+    no false = refl
+
+pub rising-answer : (ids : List ℕ) (r : Bool) → IsAllAdjacentAnswer (λ x y b. b ≡ ltb x y) ids r → r ≡ rising ids
+rising-answer ids true h = sym (rises ids (λ k g. sym (rw (add-one k) at (h k 0 (rw (add-one k) g)))))
+rising-answer ids false h = sym (falls ids h.0 (rw (add-one h.0) at h.1) (sym (rw (add-one h.0) at (h.2 0))))
 
 -- In rising order no id stands twice: all that follow the first are above it, and they rise too.
 rising-past : (w x : ℕ) (xs : List ℕ) → w ≤ x → T (rising (x ∷ xs)) → listed w xs ≡ false
@@ -93,39 +99,39 @@ limited a b c = record { not_short = a; not-long = b; program = c }
 -- where those are passed, what is left is the tables' test, and then the helpers'
 rest : (prog page locations fields targets kinds makers : ℕ) (ids : List ℕ) (addresses : ℕ) → Limited prog page
     → sized prog page locations fields targets kinds makers ids addresses
-    ≡ pick (short_table (prog / 8) locations fields targets kinds makers) (Not Refusal.TableTooShort)
-    (pick (not (eqb (length ids) addresses) || (ltb most_helpers (length ids) || twice ids)) (Not Refusal.BadHelpers) Good)
+    ≡ pick (short_table (prog / 8) locations fields targets kinds makers) (Err Refusal.TableTooShort)
+    (pick (not (eqb (length ids) addresses) || (ltb most_helpers (length ids) || twice ids)) (Err Refusal.BadHelpers) (Ok tt))
 rest prog page locations fields targets kinds makers ids addresses l = rw (le-ltb _ _ l.not_short, le-ltb _ _ l.not-long, le-ltb _ _ l.program)
 
 module _ {prog page locations fields targets kinds makers : ℕ} {ids : List ℕ} {addresses : ℕ} where
-  pub page-short : page < shortest_page → Sizes prog page locations fields targets kinds makers ids addresses (Not Refusal.PageTooShort)
+  pub page-short : page < shortest_page → Sizes prog page locations fields targets kinds makers ids addresses (Err Refusal.PageTooShort)
   page-short h = record { answer = rw (lt-ltb _ _ h); fine = tt }
 
-  pub page-long : shortest_page ≤ page → longest_page < page → Sizes prog page locations fields targets kinds makers ids addresses (Not Refusal.PageTooLong)
+  pub page-long : shortest_page ≤ page → longest_page < page → Sizes prog page locations fields targets kinds makers ids addresses (Err Refusal.PageTooLong)
   page-long a h = record { answer = rw (le-ltb _ _ a, lt-ltb _ _ h); fine = tt }
 
   pub program-long : shortest_page ≤ page → page ≤ longest_page → longest_program < prog
-      → Sizes prog page locations fields targets kinds makers ids addresses (Not Refusal.ProgramTooLong)
+      → Sizes prog page locations fields targets kinds makers ids addresses (Err Refusal.ProgramTooLong)
   program-long a b h = record { answer = rw (le-ltb _ _ a, le-ltb _ _ b, lt-ltb _ _ h); fine = tt }
 
   module _ (l : Limited prog page) {short : Bool} (s : short ≡ short_table (prog / 8) locations fields targets kinds makers) where
-    pub table-short : short ≡ true → Sizes prog page locations fields targets kinds makers ids addresses (Not Refusal.TableTooShort)
+    pub table-short : short ≡ true → Sizes prog page locations fields targets kinds makers ids addresses (Err Refusal.TableTooShort)
     table-short e = record { answer = sym (rest prog page locations fields targets kinds makers ids addresses l ∙ rw (← s, e)); fine = tt }
 
     module _ (long : short ≡ false) where
-      pub unpaired : ¬ (length ids ≡ addresses) → Sizes prog page locations fields targets kinds makers ids addresses (Not Refusal.BadHelpers)
+      pub unpaired : ¬ (length ids ≡ addresses) → Sizes prog page locations fields targets kinds makers ids addresses (Err Refusal.BadHelpers)
       unpaired h = record { answer = sym (rest prog page locations fields targets kinds makers ids addresses l ∙ rw (← s, long, ne_eqb _ _ h)); fine = tt }
 
       pub too_many : length ids ≡ addresses → most_helpers < length ids
-          → Sizes prog page locations fields targets kinds makers ids addresses (Not Refusal.BadHelpers)
+          → Sizes prog page locations fields targets kinds makers ids addresses (Err Refusal.BadHelpers)
       too_many e h = record { answer = sym (rest prog page locations fields targets kinds makers ids addresses l ∙ rw (← s, long, eq-eqb _ _ e, lt-ltb _ _ h)); fine = tt }
 
       pub one-twice : {b : Bool} → length ids ≡ addresses → length ids ≤ most_helpers → b ≡ twice ids → b ≡ true
-          → Sizes prog page locations fields targets kinds makers ids addresses (Not Refusal.BadHelpers)
+          → Sizes prog page locations fields targets kinds makers ids addresses (Err Refusal.BadHelpers)
       one-twice e h q f = record { answer = sym (rest prog page locations fields targets kinds makers ids addresses l ∙ rw (← s, long, eq-eqb _ _ e, le-ltb _ _ h, ← q, f)); fine = tt }
 
       pub passed : {b : Bool} → length ids ≡ addresses → length ids ≤ most_helpers → b ≡ twice ids → b ≡ false
-          → Sizes prog page locations fields targets kinds makers ids addresses Good
+          → Sizes prog page locations fields targets kinds makers ids addresses (Ok tt)
       passed e h q f =
           record {
             answer = sym (rest prog page locations fields targets kinds makers ids addresses l ∙ rw (← s, long, eq-eqb _ _ e, le-ltb _ _ h, ← q, f));
@@ -154,15 +160,15 @@ long-enough n a b c d e q₁ =
     }
 
 -- The tests are how the definition begins.
-abbrev pub begins : Verdict → Outcome → Outcome
-begins (Not r) o = no r
-begins Good o = o
+abbrev pub begins : Result (Unit {0}) Refusal → Outcome → Outcome
+begins (Err r) o = no r
+begins (Ok u) o = o
 
-begins-pick : (b : Bool) (r : Refusal) (s : Verdict) (o : Outcome) → pick b (no r) (begins s o) ≡ begins (pick b (Not r) s) o
+begins-pick : (b : Bool) (r : Refusal) (s : Result (Unit {0}) Refusal) (o : Outcome) → pick b (no r) (begins s o) ≡ begins (pick b (Err r) s) o
 begins-pick true r s o = refl
 begins-pick false r s o = refl
 
-abbrev sized_of : Inputs → Verdict
+abbrev sized_of : Inputs → Result (Unit {0}) Refusal
 sized_of x =
     sized (length x.filter.program) x.page x.locations x.fields x.targets x.kinds x.makers x.filter.ids (length x.filter.addresses)
 
@@ -175,9 +181,9 @@ sizes_begin x o =
     let c = ltb longest_program (length x.filter.program) in
     let d = short_table n x.locations x.fields x.targets x.kinds x.makers in
     let e = bad_helpers x.filter.ids x.filter.addresses in
-    let s₁ = pick e (Not Refusal.BadHelpers) Good in
-    let s₂ = pick d (Not Refusal.TableTooShort) s₁ in
-    let s₃ = pick c (Not Refusal.ProgramTooLong) s₂ in
-    let s₄ = pick b (Not Refusal.PageTooLong) s₃ in
-    rw (begins-pick e Refusal.BadHelpers Good o, begins-pick d Refusal.TableTooShort s₁ o)
+    let s₁ = pick e (Err Refusal.BadHelpers) (Ok tt) in
+    let s₂ = pick d (Err Refusal.TableTooShort) s₁ in
+    let s₃ = pick c (Err Refusal.ProgramTooLong) s₂ in
+    let s₄ = pick b (Err Refusal.PageTooLong) s₃ in
+    rw (begins-pick e Refusal.BadHelpers (Ok tt) o, begins-pick d Refusal.TableTooShort s₁ o)
     (rw (begins-pick c Refusal.ProgramTooLong s₂ o, begins-pick b Refusal.PageTooLong s₃ o, begins-pick a Refusal.PageTooShort s₄ o))

@@ -17,9 +17,10 @@ fn rex_rule_length(force: bool, w: u8, r: u8, b: u8) -> usize
     ensures { (result ≡ length (rex_rule «force» w r b)) × (result ≤ 1) }
 {
     if !force && 8 * w + 4 * (r / 8) + b / 8 == 0 {
-        return 0;
+        0
+    } else {
+        1
     }
-    1
 }
 
 // .. where nothing forces it.
@@ -43,12 +44,12 @@ pub fn memory_length(base: u8, disp: u32) -> usize
     ensures { ((reg : ℕ) → result ≡ length (memory reg base disp)) × (result ≤ 5) }
 {
     if x86_emit::memory::bare(base, disp) {
-        return 1;
+        1
+    } else if x86_emit::memory::short(disp) {
+        2
+    } else {
+        5
     }
-    if x86_emit::memory::short(disp) {
-        return 2;
-    }
-    5
 }
 
 // REX.W
@@ -56,9 +57,7 @@ fn wide_size(size: Size) -> u8
     ensures { (result ≡ wide_size size) × (result < 2) }
 {
     match size {
-        Size::S8 => 0,
-        Size::S16 => 0,
-        Size::S32 => 0,
+        Size::S8 | Size::S16 | Size::S32 => 0,
         Size::S64 => 1,
     }
 }
@@ -67,10 +66,8 @@ fn load_opcode_length(size: Size) -> usize
     ensures { (result ≡ length (load_opcode size)) × (result ≤ 2) }
 {
     match size {
-        Size::S8 => 2,
-        Size::S16 => 2,
-        Size::S32 => 1,
-        Size::S64 => 1,
+        Size::S8 | Size::S16 => 2,
+        Size::S32 | Size::S64 => 1,
     }
 }
 
@@ -87,10 +84,8 @@ fn prefix_length(size: Size) -> usize
     ensures { (result ≡ length (prefix66 size)) × (result ≤ 1) }
 {
     match size {
-        Size::S8 => 0,
         Size::S16 => 1,
-        Size::S32 => 0,
-        Size::S64 => 0,
+        Size::S8 | Size::S32 | Size::S64 => 0,
     }
 }
 
@@ -101,8 +96,7 @@ fn store_rex_length(size: Size, src: u8, base: u8) -> usize
 {
     match size {
         Size::S8 => rex_rule_length(FORCED, 0, src, base),
-        Size::S16 => rex_length(0, src, base),
-        Size::S32 => rex_length(0, src, base),
+        Size::S16 | Size::S32 => rex_length(0, src, base),
         Size::S64 => rex_length(1, src, base),
     }
 }
@@ -121,8 +115,7 @@ fn imm_length(size: Size) -> usize
     match size {
         Size::S8 => 1,
         Size::S16 => 2,
-        Size::S32 => 4,
-        Size::S64 => 4,
+        Size::S32 | Size::S64 => 4,
     }
 }
 
@@ -148,9 +141,10 @@ pub fn load_signed_length(mode: Mode, dst: u8, imm: u32) -> usize
     ensures { (result ≡ length (encode_plain (loaded mode (alu_imm MOV W64 dst imm)))) × (result ≤ 7) }
 {
     if mode::is_low_imm(mode, imm) {
-        return low_length(dst);
+        low_length(dst)
+    } else {
+        7
     }
-    7
 }
 
 // A constant of 64 bits, in the signed 32-bit range such an immediate; any other takes eight bytes, or compact, below 2 ^ 32, four.

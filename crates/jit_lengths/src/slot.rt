@@ -77,13 +77,11 @@ fn truncated_length(dst: u8, bits: u32) -> usize
     requires { dst < 16 }
     ensures { (result ≡ size (truncated dst bits)) × (result ≤ 17) }
 {
-    if bits == 16 {
-        return instruction::rexed_length(Width::W32, 0, dst, 6);
+    match bits {
+        16 => instruction::rexed_length(Width::W32, 0, dst, 6),
+        32 => lower_length(dst),
+        _ => 0,
     }
-    if bits == 32 {
-        return lower_length(dst);
-    }
-    0
 }
 
 // LE, which has code in standard mode alone.
@@ -92,9 +90,10 @@ pub fn le_length(mode: Mode, dst: u8, bits: u32) -> usize
     ensures { (result ≡ size (when mode.standard (truncated dst bits))) × (result ≤ 17) }
 {
     if mode.standard {
-        return truncated_length(dst, bits);
+        truncated_length(dst, bits)
+    } else {
+        0
     }
-    0
 }
 
 // BE
@@ -103,14 +102,13 @@ pub fn swap_length(dst: u8, bits: u32) -> usize
     ensures { (result ≡ size (swap dst bits)) × (result ≤ 40) }
 {
     if bits == 16 {
-        return 1
-            + instruction::rexed_length(Width::W32, 0, dst, 3)
-            + instruction::rexed_length(Width::W32, 0, dst, 6);
+        1 + instruction::rexed_length(Width::W32, 0, dst, 3)
+            + instruction::rexed_length(Width::W32, 0, dst, 6)
+    } else if bits == 32 {
+        instruction::rexed_length(Width::W32, 0, dst, 2)
+    } else {
+        3
     }
-    if bits == 32 {
-        return instruction::rexed_length(Width::W32, 0, dst, 2);
-    }
-    3
 }
 
 // RAX and RDX, saved and restored, and the result that goes to dst, from RAX or from RDX.
@@ -118,18 +116,12 @@ fn kept_length(from_rax: bool, dst: u8) -> usize
     ensures { (result ≡ kept from_rax dst) × (result ≤ 7) }
 {
     if dst == RAX {
-        if from_rax {
-            return 2;
-        }
-        return 5;
+        if from_rax { 2 } else { 5 }
+    } else if dst == RDX {
+        if from_rax { 5 } else { 2 }
+    } else {
+        7
     }
-    if dst == RDX {
-        if from_rax {
-            return 5;
-        }
-        return 2;
-    }
-    7
 }
 
 // The operation on dst, and what is saved for it; what brings the second operand to RCX comes on top.
@@ -149,8 +141,7 @@ fn by_zero_length(op: MulOp, dst: u8) -> usize
     ensures { (result ≡ size (by_zero op dst)) × (result ≤ 17) }
 {
     match op {
-        MulOp::Mul => instruction::rexed_length(Width::W32, dst, dst, 2),
-        MulOp::Div => instruction::rexed_length(Width::W32, dst, dst, 2),
+        MulOp::Mul | MulOp::Div => instruction::rexed_length(Width::W32, dst, dst, 2),
         MulOp::Mod => 0,
     }
 }
@@ -161,10 +152,7 @@ fn tested_length(mode: Mode, width: Width, src: u8) -> usize
     ensures { ((slot : ℕ) → slot < 2 ^ 16 → result ≡ size (tested mode slot width src)) × (result ≤ 24) }
 {
     let test = instruction::rexed_length(width, src, src, 2);
-    if mode.compact {
-        return 5 + test;
-    }
-    7 + test
+    if mode.compact { 5 + test } else { 7 + test }
 }
 
 // The test and its jump; for DIV also the cleared dst and the jump behind it.

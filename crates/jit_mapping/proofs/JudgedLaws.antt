@@ -1,4 +1,5 @@
 -- Whether there is a map (src/mapped.rt): the code's length as it is measured, and the tests on it.
+use Rattle.std.proofs.Common.{Result, Ok, Err, IsOk}
 use mathlib.Core.Path.{◌≡◌, ◌∙◌, refl, ap, sym}
 use mathlib.Core.Bool.{Bool, true, false}
 use Prim.Native.Nat.{ℕ, ◌+◌, ◌-◌, ◌≤◌, ◌<◌, ◌^◌}
@@ -7,9 +8,8 @@ use lib.Dec.{leb, ltb, leb→le}
 use lib.ListN.{length}
 use borrow.Author.Tests.{lt-ltb, le-ltb, le-leb, ltb-true}
 use Rattle.base.proofs.Tests.{true-T, leb_no}
-use Rattle.base.specs.declared.Position.{Position}
+use Rattle.base.specs.declared.Slot.{Slot}
 use Rattle.x86.specs.Code.{size}
-use Rattle.jit.specs.declared.Bad.{Bad}
 use Rattle.jit.specs.declared.Refusal.{Refusal}
 use Rattle.jit.specs.declared.Flags.{Flags}
 use Rattle.jit.specs.Frame.{prologue}
@@ -18,34 +18,27 @@ use Rattle.jit.specs.Passes.{walk_from}
 use Rattle.jit.specs.Room.{epilogue_size}
 use Rattle.map.specs.MapText.{text_of}
 use Rattle.jit.specs.JumpTables.{blocks_in}
-use Rattle.jit.specs.Translation.{Filter, slots_of, Walk, flat, first_bad}
+use Rattle.jit.specs.Translation.{Filter, slots_of, Walk, flat}
 use Rattle.jit_walk.specs.Acceptable.{Acceptable}
 use Rattle.jit_measuring.specs.declared.measure.Measured.{Measured}
-use Rattle.jit_measuring.specs.declared.measure.Measured.TheVariants.{Refused, Done}
 use Rattle.jit_measuring.specs.Measures.{measured_is}
 use Rattle.jit_mapping.specs.declared.Refusal.TheVariants.{BaseTooHigh, TextTooShort}
-use Rattle.jit_mapping.specs.declared.mapped.Fit.{Fit}
-use Rattle.jit_mapping.specs.declared.mapped.Fit.TheVariants.{Fits, Not}
-use Rattle.jit_mapping.specs.Walked.{walk_lines, Accepted, fit_at, Judging}
+use Rattle.jit_mapping.specs.Walked.{Fit, walk_lines, Accepted, fit_at, Judging}
 
 -- measuring comes to the end of the slots
-abbrev end_in : Measured → ℕ
-end_in (Refused r) = 0
-end_in (Done end bad) = end.offset
+abbrev end_in : Result Measured Refusal → ℕ
+end_in (Err r) = 0
+end_in (Ok m) = m.end.offset
 
 module _ {n page start : ℕ} {w : Walk} (a : Acceptable n page start w) where
   pub low-page : start + size (flat (blocks_in w)) + epilogue_size ≤ page
   low-page = rw a.walk a.room
 
-  pub ends_at : {end : Position} {bad : Bad} → Done end bad ≡ measured_is n start w → end.offset ≡ start + size (flat (blocks_in w))
-  ends_at {end} {bad} e =
-      rw a.walk (ap end_in (e ∙ ap (measured_is n start) a.walk))
+  pub ends_at : {m : Measured} → Ok m ≡ measured_is n start w → m.end.offset ≡ start + size (flat (blocks_in w))
+  ends_at e = rw a.walk (ap end_in (e ∙ ap (measured_is n start) a.walk))
 
-  pub never-refused : {A : Type 0} {r : Refusal} → Refused r ≡ measured_is n start w → A
-  never-refused {A} {r} e =
-      let f : Refused r ≡ Done (record { offset = start + size (flat a.bs) }) (first_bad n 0 a.bs) = e ∙ ap (measured_is n start) a.walk in
-      let z : ◌≡◌ {A = ℕ} 0 1 = cc in
-      absurd (omega arith)
+  pub never-refused : {r : Result Measured Refusal} → r ≡ measured_is n start w → IsOk r
+  never-refused e = rw (e, a.walk)
 
 -- no address behind the code is above the largest one
 pub low-is : (base n : ℕ) → n < 2 ^ 64 → leb base (2 ^ 64 - 1 - n) ≡ ltb (base + n) (2 ^ 64)
@@ -84,12 +77,12 @@ module _ {filter : Filter} {flags : Flags} {page start : ℕ} (j : Judging filte
       abbrev verdict : Fit
       verdict = fit_at base room (size (prologue flags)) (blocks_in (walk_from filter page (size (prologue flags))))
 
-      pub too-high : low ≡ false → Not BaseTooHigh ≡ verdict
+      pub too-high : low ≡ false → Err BaseTooHigh ≡ verdict
       too-high t = rw (rw e at t)
 
       pub too_short : low ≡ true → leb (length (text_of (walk_lines base start (blocks_in (walk_from filter page start))))) room ≡ false
-          → Not TextTooShort ≡ verdict
+          → Err TextTooShort ≡ verdict
       too_short t f = rw (rw e at t, rw e at f)
 
-      pub fits : low ≡ true → leb (length (text_of (walk_lines base start (blocks_in (walk_from filter page start))))) room ≡ true → Fits ≡ verdict
+      pub fits : low ≡ true → leb (length (text_of (walk_lines base start (blocks_in (walk_from filter page start))))) room ≡ true → Ok tt ≡ verdict
       fits t f = rw (rw e at t, rw e at f)

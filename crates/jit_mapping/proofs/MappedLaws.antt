@@ -4,6 +4,7 @@ use mathlib.Core.Bool.{Bool, true, false}
 use mathlib.Core.List.{List, ◌++◌, append_assoc}
 use Prim.Native.Nat.{ℕ, ◌+◌, ◌-◌, ◌≤◌, ◌<◌, ◌^◌}
 use native.Mathlib.Omega.{arith}
+use Rattle.std.specs.Prelude.{Ok, Err}
 use native.Mathlib.Nat.{zero-add}
 use lib.Dec.{leb, ltb, leb→le}
 use lib.ListN.{length, length-append, take, drop}
@@ -24,31 +25,26 @@ use Rattle.jit.specs.Frame.{prologue}
 use Rattle.jit.specs.Room.{epilogue_size}
 use Rattle.jit.specs.JumpTables.{blocks_in, page_for}
 use Rattle.jit.specs.Passes.{starts}
-use Rattle.jit.specs.declared.Refusal.{Refusal as Untranslated}
 use Rattle.jit.specs.Translation as translation
 use Rattle.jit.specs.Translation.{Inputs, Outcome, Block, slots_of, slots_in, flat, whole, page_of, locations, accepted, walk_of, translation_of}
 use Rattle.jit.proofs.Bounds.{whole-size}
 use Rattle.jit.proofs.Counted.{all_slots, length-locations}
 use Rattle.jit.proofs.FrameLaws.{prologue-size}
-use Rattle.jit_walk.specs.declared.verdict.Verdict.TheVariants.{Good}
+use Rattle.jit_translate.specs.declared.translate.Accepted.{Accepted as Page}
 use Rattle.jit_translate.specs.Translated.{answer_of as answer_to, verdict_in, code_in, locations_in, fields_in, Translated, Named, Decided}
-use Rattle.jit_translate.specs.declared.translate.Answer.TheVariants as translate
 use Rattle.jit_translate.proofs.DecidedLaws.{Ready, ready}
-use Rattle.jit_mapping.specs.declared.Answer.{Answer}
-use Rattle.jit_mapping.specs.declared.Answer.TheVariants.{Accepted, Refused}
+use Rattle.jit_translate.proofs.TranslatedLaws.{same-numbers}
 use Rattle.jit_mapping.specs.declared.Refusal.{Refusal}
 use Rattle.jit_mapping.specs.declared.Refusal.TheVariants.{Translation, BaseTooHigh, TextTooShort}
-use Rattle.jit_mapping.specs.declared.mapped.Fit.{Fit}
-use Rattle.jit_mapping.specs.declared.mapped.Fit.TheVariants.{Fits, Not}
-use Rattle.jit_mapping.specs.Mapped.{map_text, Map, no, yes, map_in, map_of, answer_of, text_in, Buffers, Mapped}
+use Rattle.jit_mapping.specs.Mapped.{map_text, Map, no, yes, map_in, map_of, Answer, answer_of, text_in, Buffers, Mapped}
 use Rattle.jit_mapping.specs.Rows.{closed_table, table_lines, Rising}
-use Rattle.jit_mapping.specs.Walked.{walk_lines, fit_at, Judging}
+use Rattle.jit_mapping.specs.Walked.{walk_lines, Fit, fit_at, Judging}
 use Rattle.jit_mapping.specs.Passes.{fit_in}
 use Rattle.jit_mapping.proofs.RowsLaws.{table-lines, rising-starts}
 use Rattle.jit_mapping.proofs.WalkedLaws.{page-lines}
 
 -- a refusal leaves everything as it was
-pub refuses : {x : Inputs} {base : ℕ} {b : Buffers} {r : Refusal} → map_of x base (length b.text) ≡ no r → Mapped x base b b (Refused r)
+pub refuses : {x : Inputs} {base : ℕ} {b : Buffers} {r : Refusal} → map_of x base (length b.text) ≡ no r → Mapped x base b b (Err r)
 refuses e =
     record {
       answer = rw e;
@@ -72,20 +68,20 @@ at_head : (s ys : List ℕ) → length ys ≤ length s → sets s 0 ys ≡ over 
 at_head s ys h = sets-eq ys s 0 (omega arith) ∙ rw (zero-add (length ys))
 
 -- a translation's answer, in its two numbers
-lengths-in : (o : Outcome) {L J : ℕ} → translate.Accepted L J ≡ answer_to o → (L ≡ length (code_in o)) × (J ≡ length (fields_in o))
+lengths-in : (o : Outcome) {page : Page} → Ok page ≡ answer_to o → (page.length ≡ length (code_in o)) × (page.jumps ≡ length (fields_in o))
 lengths-in (translation.no r) e = let z : ◌≡◌ {A = ℕ} 0 1 = cc in absurd (omega arith)
-lengths-in (translation.yes c l f t) e = (cc, cc)
+lengths-in (translation.yes c l f t) e = same-numbers e
 
-pub answered : {o : Outcome} {c c₁ l l₁ f f₁ t t₁ : List ℕ} {L J : ℕ} → Translated o c c₁ l l₁ f f₁ t t₁ (translate.Accepted L J)
-    → (L ≡ length (code_in o)) × (J ≡ length (fields_in o))
+pub answered : {o : Outcome} {c c₁ l l₁ f f₁ t t₁ : List ℕ} {page : Page} → Translated o c c₁ l l₁ f f₁ t t₁ (Ok page)
+    → (page.length ≡ length (code_in o)) × (page.jumps ≡ length (fields_in o))
 answered {o} h = lengths-in o h.answer
 
 -- what the verdict says
 abbrev by_fit : Fit → List ℕ → Map
-by_fit Fits text = yes text
-by_fit (Not r) text = no r
+by_fit (Ok u) text = yes text
+by_fit (Err r) text = no r
 
-module _ {x : Inputs} (good : Decided x Good) where
+module _ {x : Inputs} (good : Decided x (Ok tt)) where
   is : Ready x
   is = ready good
 
@@ -129,12 +125,12 @@ module _ {x : Inputs} (good : Decided x Good) where
   tested : (base room : ℕ) (text : List ℕ)
       → pick (leb (2 ^ 64) (base + (exit + epilogue_size))) (no BaseTooHigh) (pick (ltb room (length text)) (no TextTooShort) (yes text))
       ≡ by_fit
-      (pick (ltb (base + (exit + epilogue_size)) (2 ^ 64)) (pick (leb (length text) room) Fits (Not TextTooShort)) (Not BaseTooHigh)) text
+      (pick (ltb (base + (exit + epilogue_size)) (2 ^ 64)) (pick (leb (length text) room) (Ok tt) (Err TextTooShort)) (Err BaseTooHigh)) text
   tested base room text = by (ltb (base + (exit + epilogue_size)) (2 ^ 64)) refl (leb (length text) room) refl
     where
       by : (low : Bool) → ltb (base + (exit + epilogue_size)) (2 ^ 64) ≡ low → (fits : Bool) → leb (length text) room ≡ fits
           → pick (leb (2 ^ 64) (base + (exit + epilogue_size))) (no BaseTooHigh) (pick (ltb room (length text)) (no TextTooShort) (yes text))
-          ≡ by_fit (pick low (pick fits Fits (Not TextTooShort)) (Not BaseTooHigh)) text
+          ≡ by_fit (pick low (pick fits (Ok tt) (Err TextTooShort)) (Err BaseTooHigh)) text
       by true e true f = rw (lt-leb _ _ (ltb-true _ _ e), le-ltb _ _ (leb→le _ _ (true-T _ f)))
       by true e false f = rw (lt-leb _ _ (ltb-true _ _ e), lt-ltb _ _ (leb_no _ _ f))
       by false e fits f = rw (le-leb _ _ (ltb-false _ _ e))
@@ -147,10 +143,10 @@ module _ {x : Inputs} (good : Decided x Good) where
   judged base room = by (fit_at base room start (blocks_in (walk_of x))) ∙ sym (ap fit_in (map_is base room))
     where
       by : (f : Fit) → f ≡ fit_in (by_fit f (map_text x base))
-      by Fits = refl
-      by (Not r) = refl
+      by (Ok u) = refl
+      by (Err r) = refl
 
-  module _ (base room : ℕ) (fit : fit_at base room start (blocks_in (walk_of x)) ≡ Fits) where
+  module _ (base room : ℕ) (fit : fit_at base room start (blocks_in (walk_of x)) ≡ Ok tt) where
     pub map-fits : map_of x base room ≡ yes (map_text x base)
     map-fits = map_is base room ∙ ap (λ (f : Fit). by_fit f (map_text x base)) fit
 
@@ -158,12 +154,12 @@ module _ {x : Inputs} (good : Decided x Good) where
     fit_is : (base + (exit + epilogue_size) < 2 ^ 64) × (length (text_of (walk_lines base start bs)) ≤ room)
     fit_is = by (ltb (base + (exit + epilogue_size)) (2 ^ 64)) refl (leb (length (text_of (walk_lines base start bs))) room) refl (rw blocks-are at fit)
       where
-        wrong : {A : Type 0} {r : Refusal} → Not r ≡ Fits → A
+        wrong : {A : Type 0} {r : Refusal} → ◌≡◌ {A = Fit} (Err r) (Ok tt) → A
         wrong e = let z : ◌≡◌ {A = ℕ} 0 1 = cc in absurd (omega arith)
 
         by : (low : Bool) → ltb (base + (exit + epilogue_size)) (2 ^ 64) ≡ low
             → (fits : Bool) → leb (length (text_of (walk_lines base start bs))) room ≡ fits
-            → pick low (pick fits Fits (Not TextTooShort)) (Not BaseTooHigh) ≡ Fits
+            → ◌≡◌ {A = Fit} (pick low (pick fits (Ok tt) (Err TextTooShort)) (Err BaseTooHigh)) (Ok tt)
             → (base + (exit + epilogue_size) < 2 ^ 64) × (length (text_of (walk_lines base start bs)) ≤ room)
         by true e true f q = (ltb-true _ _ e, leb→le _ _ (true-T _ f))
         by true e false f q = wrong q
@@ -204,16 +200,16 @@ module _ {x : Inputs} (good : Decided x Good) where
           )
 
       -- and what it leaves
-      pub maps : {c c₁ f f₁ t t₁ k k₁ m m₁ s s₁ : List ℕ} {L J T : ℕ} → room ≡ length s
-          → Translated (translation_of x) c c₁ l l₁ f f₁ t t₁ (translate.Accepted L J) → Named x k k₁ m m₁
-          → Says s s₁ 0 T (text_of (table_lines (slots_of x.filter.program) base (L - epilogue_size) l₁))
+      pub maps : {c c₁ f f₁ t t₁ k k₁ m m₁ s s₁ : List ℕ} {page : Page} {T : ℕ} → room ≡ length s
+          → Translated (translation_of x) c c₁ l l₁ f f₁ t t₁ (Ok page) → Named x k k₁ m m₁
+          → Says s s₁ 0 T (text_of (table_lines (slots_of x.filter.program) base (page.length - epilogue_size) l₁))
           → Mapped x base
           (record { code = c; locations = l; fields = f; targets = t; kinds = k; makers = m; text = s })
           (record { code = c₁; locations = l₁; fields = f₁; targets = t₁; kinds = k₁; makers = m₁; text = s₁ })
-          (Accepted L J T)
-      maps {s = s} {s₁ = s₁} {L = L} {J = J} {T = T} q h names p =
+          (Ok (record { length = page.length; jumps = page.jumps; text = T }))
+      maps {s = s} {s₁ = s₁} {page = page} {T = T} q h names p =
           let lengths = answered h in
-          let at : L - epilogue_size ≡ exit = omega (arith, rw translation-is at lengths.0, code_is) in
+          let at : page.length - epilogue_size ≡ exit = omega (arith, rw translation-is at lengths.0, code_is) in
           let said : Says s s₁ 0 T (map_text x base) = rw (text_is base) (rw (at, lines_are) at p) in
           let fits : length (map_text x base) ≤ length s = rw (text_is base, ← q) fit_is.1 in
           let m = ap (map_of x base) (sym q) ∙ map-fits in
@@ -228,37 +224,30 @@ module _ {x : Inputs} (good : Decided x Good) where
             text = said.text ∙ at_head s (map_text x base) fits ∙ sym (ap (λ (w : Map). over (text_in w) s) m);
           }
         where
-          counted : {L J T a b d : ℕ} → L ≡ a → J ≡ b → T ≡ d → Accepted L J T ≡ Accepted a b d
+          counted : {L J T a b d : ℕ} → L ≡ a → J ≡ b → T ≡ d
+              → ◌≡◌ {A = Answer} (Ok (record { length = L; jumps = J; text = T })) (Ok (record { length = a; jumps = b; text = d }))
           counted e f g = rw (e, f, g)
 
 -- where there is none, for what reason; where there is one, `translate` accepts, and it fits
-pub no-map : (x : Inputs) (base room : ℕ) {r : Refusal} → fit_in (map_of x base room) ≡ Not r → map_of x base room ≡ no r
+pub no-map : (x : Inputs) (base room : ℕ) {r : Refusal} → fit_in (map_of x base room) ≡ Err r → map_of x base room ≡ no r
 no-map x base room {r} e = by (map_of x base room) e
   where
-    by : (m : Map) → fit_in m ≡ Not r → m ≡ no r
+    by : (m : Map) → fit_in m ≡ Err r → m ≡ no r
     by (no q) f = cc
     by (yes text) f = let z : ◌≡◌ {A = ℕ} 0 1 = cc in absurd (omega arith)
 
-pub a-map : (x : Inputs) (base room : ℕ) → fit_in (map_of x base room) ≡ Fits
-    → Decided x Good × (fit_at base room (size (prologue x.flags)) (blocks_in (walk_of x)) ≡ Fits)
+pub a-map : (x : Inputs) (base room : ℕ) → fit_in (map_of x base room) ≡ Ok tt
+    → Decided x (Ok tt) × (fit_at base room (size (prologue x.flags)) (blocks_in (walk_of x)) ≡ Ok tt)
 a-map x base room e = by (translation_of x) refl
   where
-    by : (o : Outcome) → translation_of x ≡ o → Decided x Good × (fit_at base room (size (prologue x.flags)) (blocks_in (walk_of x)) ≡ Fits)
+    by : (o : Outcome) → translation_of x ≡ o → Decided x (Ok tt) × (fit_at base room (size (prologue x.flags)) (blocks_in (walk_of x)) ≡ Ok tt)
     by (translation.no r) q =
-        let f : Not (Translation r) ≡ Fits = ap (λ (o : Outcome). fit_in (map_in o (map_text x base) base room)) (sym q) ∙ e in
+        let f : Err (Translation r) ≡ Ok tt = ap (λ (o : Outcome). fit_in (map_in o (map_text x base) base room)) (sym q) ∙ e in
         let z : ◌≡◌ {A = ℕ} 0 1 = cc in
         absurd (omega arith)
     by (translation.yes c l f t) q =
-        let good : Decided x Good = record { verdict = sym (ap verdict_in q) } in
+        let good : Decided x (Ok tt) = record { verdict = sym (ap verdict_in q) } in
         (good, judged good base room ∙ e)
-
--- a translation that is good is not refused
-pub never : {A : Type 0} {x : Inputs} (good : Decided x Good) {c c₁ l l₁ f f₁ t t₁ : List ℕ} {r : Untranslated}
-    → Translated (translation_of x) c c₁ l l₁ f f₁ t t₁ (translate.Refused r) → A
-never {A} {x} good {r = r} h =
-    let e : translate.Refused r ≡ answer_to (accepted x.flags (bs good)) = h.answer ∙ ap answer_to (translation-is good) in
-    let z : ◌≡◌ {A = ℕ} 0 1 = cc in
-    absurd (omega arith)
 
 pub same : (a b : Buffers) → a.code ≡ b.code → a.locations ≡ b.locations → a.fields ≡ b.fields → a.targets ≡ b.targets
     → a.kinds ≡ b.kinds → a.makers ≡ b.makers → a.text ≡ b.text → a ≡ b
@@ -284,24 +273,24 @@ one_answer {after = after} {other = other} a b = (
 )
 
 -- the code has an epilogue
-pub long-enough : {x : Inputs} (good : Decided x Good) {c c₁ l l₁ f f₁ t t₁ : List ℕ} {L J : ℕ}
-    → Translated (translation_of x) c c₁ l l₁ f f₁ t t₁ (translate.Accepted L J) → epilogue_size ≤ L
+pub long-enough : {x : Inputs} (good : Decided x (Ok tt)) {c c₁ l l₁ f f₁ t t₁ : List ℕ} {page : Page}
+    → Translated (translation_of x) c c₁ l l₁ f f₁ t t₁ (Ok page) → epilogue_size ≤ page.length
 long-enough good h = omega (arith, rw (translation-is good) at (answered h).0, code_is good)
 
 -- What an acceptance says: the translation's own, and that of the map.
 pub record Mapping (x : Inputs) (base : ℕ) (before after : Buffers) (L J T : ℕ) : Type 0 where
   pub page : Translated (translation_of x)
       before.code after.code before.locations after.locations before.fields after.fields before.targets after.targets
-      (translate.Accepted L J)
+      (Ok (record { length = L; jumps = J }))
   pub names : Named x before.kinds after.kinds before.makers after.makers
   pub length_is : L ≡ size (pages.whole (page_for x))
   pub low : base + size (pages.whole (page_for x)) < 2 ^ 64
   pub text : take T after.text ≡ map_text x base
 
 record Yes (o : Outcome) (base : ℕ) (text : List ℕ) : Type 0 where
-  pub verdict : Good ≡ verdict_in o
+  pub verdict : Ok tt ≡ verdict_in o
   pub low : base + length (code_in o) < 2 ^ 64
-  pub mine : (J : ℕ) → J ≡ length (fields_in o) → translate.Accepted (length (code_in o)) J ≡ answer_to o
+  pub mine : (J : ℕ) → J ≡ length (fields_in o) → Ok (record { length = length (code_in o); jumps = J }) ≡ answer_to o
 
 refused-not : {A : Type 0} {r : Refusal} {text : List ℕ} → no r ≡ yes text → A
 refused-not e = let z : ◌≡◌ {A = ℕ} 0 1 = cc in absurd (omega arith)
@@ -317,22 +306,36 @@ is-yes (translation.yes c l f t) text base room {made} e = by (leb (2 ^ 64) (bas
     by false h true q = refused-not q
     by false h false q = (cc, record { verdict = refl; low = leb_no _ _ h; mine = λ J e. rw e })
 
-pub mapping : {x : Inputs} {base : ℕ} {before after : Buffers} {L J T : ℕ} → Mapped x base before after (Accepted L J T) → Mapping x base before after L J T
+-- the numbers of an answer
+abbrev length_in : Answer → ℕ
+length_in (Ok a) = a.length
+length_in (Err r) = 0
+
+abbrev jumps_in : Answer → ℕ
+jumps_in (Ok a) = a.jumps
+jumps_in (Err r) = 0
+
+abbrev text_length_in : Answer → ℕ
+text_length_in (Ok a) = a.text
+text_length_in (Err r) = 0
+
+pub mapping : {x : Inputs} {base : ℕ} {before after : Buffers} {L J T : ℕ} → Mapped x base before after (Ok (record { length = L; jumps = J; text = T }))
+    → Mapping x base before after L J T
 mapping {x} {base} {before} {after} {L} {J} {T} h = by (map_of x base (length before.text)) refl
   where
     by : (w : Map) → map_of x base (length before.text) ≡ w → Mapping x base before after L J T
     by (no r) e =
-        let f : Accepted L J T ≡ Refused r = h.answer ∙ ap (λ (w : Map). answer_of w (translation_of x)) e in
+        let f : ◌≡◌ {A = Answer} (Ok (record { length = L; jumps = J; text = T })) (Err r) = h.answer ∙ ap (λ (w : Map). answer_of w (translation_of x)) e in
         let z : ◌≡◌ {A = ℕ} 0 1 = cc in
         absurd (omega arith)
     by (yes made) e =
         let is = is-yes (translation_of x) (map_text x base) base (length before.text) e in
         let size = size_is (record { verdict = is.1.verdict }) in
-        let f : Accepted L J T ≡ Accepted (length (code_in (translation_of x))) (length (fields_in (translation_of x))) (length made) =
+        let f : ◌≡◌ {A = Answer} (Ok (record { length = L; jumps = J; text = T })) (answer_of (yes made) (translation_of x)) =
         h.answer ∙ ap (λ (w : Map). answer_of w (translation_of x)) e in
-        let l : L ≡ length (code_in (translation_of x)) = cc in
-        let j : J ≡ length (fields_in (translation_of x)) = cc in
-        let t : T ≡ length made = cc in
+        let l : L ≡ length (code_in (translation_of x)) = ap length_in f in
+        let j : J ≡ length (fields_in (translation_of x)) = ap jumps_in f in
+        let t : T ≡ length made = ap text_length_in f in
         record {
           page =
               record {

@@ -4,6 +4,7 @@ use mathlib.Core.Bool.{Bool, true, false}
 use mathlib.Core.List.{List, [], ◌∷◌, ◌++◌, append_assoc, append-nil}
 use Prim.Native.Nat.{ℕ, ◌+◌, ◌*◌, ◌≤◌, ◌<◌, ◌^◌}
 use native.Mathlib.Omega.{arith}
+use Rattle.std.proofs.Common.{Result, Ok, Err, IsOk}
 use native.Mathlib.Nat.{zero-add}
 use lib.Dec.{leb, leb→le, ltb}
 use borrow.Author.Tests.{ltb-true, ltb-false}
@@ -81,7 +82,7 @@ sizing-begins filter page start base h e m =
       few = omega arith;
     }
 
--- the slot that is next
+-- the slot that is next: it has a look, and that says
 pub record Taken (filter : Filter) (slot : ℕ) (x : Look) : Type 0 where
   pub block : Block
   pub step : go block ≡ step_at filter slot
@@ -96,12 +97,23 @@ module _ {filter : Filter} {page start base n slot₁ place text : ℕ} (s : Siz
       let w = sym s.sofar.whole ∙ a.walk.walk in
       omega (arith, a.low, s.sofar.place_is, part s.bs a.walk.bs (rest s.sofar.fuel filter page slot₁ place) w)
 
-  pub taken : (x : Look) → 8 * slot₁ < length filter.program → Finds n slot₁ (step_at filter slot₁) x → Taken filter slot₁ x
+  pub looked : (x : Result Look Refusal) → 8 * slot₁ < length filter.program → Finds n slot₁ (step_at filter slot₁) x → IsOk x
+  looked x h f = by (step_at filter slot₁) refl f
+    where
+      found : (b : Block) (x : Result Look Refusal) → Finds n slot₁ (go b) x → IsOk x
+      found b (Ok y) f = refl
+      found b (Err r) f = absurd f
+
+      by : (t : Step) → t ≡ step_at filter slot₁ → Finds n slot₁ t x → IsOk x
+      by (stop r) e f = not_done (sym (stops s.sofar r h e) ∙ a.walk.walk)
+      by (go b) e f = found b x f
+
+  pub taken : (x : Look) → 8 * slot₁ < length filter.program → Finds n slot₁ (step_at filter slot₁) (Ok x) → Taken filter slot₁ x
   taken x h f = by (step_at filter slot₁) refl f
     where
-      by : (t : Step) → t ≡ step_at filter slot₁ → Finds n slot₁ t x → Taken filter slot₁ x
+      by : (t : Step) → t ≡ step_at filter slot₁ → Finds n slot₁ t (Ok x) → Taken filter slot₁ x
       by (stop r) e f = not_done (sym (stops s.sofar r h e) ∙ a.walk.walk)
-      by (go b) e f = record { block = b; step = e; size_is = f.1.0; wide = f.1.1.0 }
+      by (go b) e f = record { block = b; step = e; size_is = f.0; wide = f.1.0 }
 
   -- its code has room
   has_room : (b : Block) → 8 * slot₁ < length filter.program → go b ≡ step_at filter slot₁ → place + size b.code ≤ page

@@ -1,9 +1,9 @@
 -- The contract, of the parameters by their names (base/specs/Lent.antt).
 use Rattle.std.specs.Prelude.{ℕ}
-use Rattle.base.specs.Lent.{MutSlice, Lent, MutLent}
+use Rattle.base.specs.Lent.{MutSlice, MutLent}
 use Rattle.jit.specs.Translation.{Inputs}
-use Rattle.jit_mapping.specs.declared.Answer.{Answer}
 use Rattle.jit_mapping.specs.Mapped as M
+use Rattle.jit_mapping.specs.Mapped.{Answer}
 
 abbrev pub lent : (code locations fields targets kinds makers text : MutSlice) → M.Buffers
 lent code locations fields targets kinds makers text =

@@ -1,7 +1,7 @@
 -- What the translator answers when it is asked for a map beside the page, and what it leaves in what it was lent: what `translate` does, and
 -- the map's text. It is refused where `translate` refuses (1 to 14), then where the page would go on past the largest 64-bit address (15),
 -- then where the text has no room (16); and then nothing that was lent is changed.
-use Rattle.std.specs.Prelude.{◌≡◌, List, [], ℕ, ◌+◌, ◌^◌, leb, ltb, length}
+use Rattle.std.specs.Prelude.{◌≡◌, List, [], ℕ, ◌+◌, ◌^◌, leb, ltb, length, Result, Ok, Err}
 use Rattle.base.specs.Lists.{over}
 use Rattle.base.specs.Pick.{pick}
 use Rattle.code.specs.Lines.{lines_of}
@@ -11,8 +11,7 @@ use Rattle.jit.specs.Translation as translation
 use Rattle.jit.specs.Translation.{Inputs, Outcome, translation_of}
 use Rattle.jit.specs.JumpTables.{page_for, kinds_in, makers_in}
 use Rattle.jit_translate.specs.Translated.{code_in, locations_in, fields_in, targets_in}
-use Rattle.jit_mapping.specs.declared.Answer.{Answer}
-use Rattle.jit_mapping.specs.declared.Answer.TheVariants.{Accepted, Refused}
+use Rattle.jit_mapping.specs.declared.Accepted.{Accepted}
 use Rattle.jit_mapping.specs.declared.Refusal.{Refusal}
 use Rattle.jit_mapping.specs.declared.Refusal.TheVariants.{Translation, BaseTooHigh, TextTooShort}
 
@@ -33,10 +32,14 @@ map_in (translation.yes c l f t) text base room =
 abbrev pub map_of : Inputs → (base room : ℕ) → Map
 map_of x base room = map_in (translation_of x) (map_text x base) base room
 
+-- what `translate_mapped` answers
+abbrev pub Answer : Type 0
+Answer = Result Accepted Refusal
+
 -- the answer, and what of a translation is written: all of it, or nothing
 abbrev pub answer_of : Map → Outcome → Answer
-answer_of (no r) o = Refused r
-answer_of (yes text) o = Accepted (length (code_in o)) (length (fields_in o)) (length text)
+answer_of (no r) o = Err r
+answer_of (yes text) o = Ok (record { length = length (code_in o); jumps = length (fields_in o); text = length text })
 
 abbrev pub written : Map → List ℕ → List ℕ
 written (no r) ys = []

@@ -1,11 +1,11 @@
 -- What the passes ask and leave, of the parameters by their names (base/specs/Lent.antt). Only they speak of it; the proofs join them to the
 -- contract (Lent.antt).
-use Rattle.std.specs.Prelude.{◌≡◌, ℕ, ◌+◌, ◌≤◌, ◌<◌, ◌^◌, Bool, ltb, length, get_or}
+use Rattle.std.specs.Prelude.{◌≡◌, ℕ, ◌+◌, ◌≤◌, ◌<◌, ◌^◌, Bool, ltb, length, get_or, Ok, Err}
 use Rattle.base.specs.declared.Position.{Position}
 use Rattle.base.specs.Lent.{Slice, MutSlice, Lent, MutLent}
 use Rattle.code.specs.declared.Piece.{Piece}
 use Rattle.text.specs.Numerals.{hex}
-use Rattle.text.specs.Lent.{Says, IsWidth}
+use Rattle.text.specs.Lent.{Says}
 use Rattle.map.specs.MapText.{text_of}
 use Rattle.x86.specs.Code.{size}
 use Rattle.jit.specs.declared.Flags.{Flags}
@@ -15,13 +15,17 @@ use Rattle.jit.specs.JumpTables.{blocks_in}
 use Rattle.jit.specs.Passes.{walked, walk_from}
 use Rattle.jit.specs.Frame.{prologue}
 use Rattle.jit_walk.specs.Acceptable.{Acceptable}
-use Rattle.jit_mapping.specs.declared.mapped.Fit.{Fit}
-use Rattle.jit_mapping.specs.declared.mapped.Fit.TheVariants.{Fits, Not}
+use Rattle.jit_mapping.specs.declared.mapped.Filter as declared
 use Rattle.jit_mapping.specs.declared.write.Open.{Open}
 use Rattle.jit_mapping.specs.Mapped.{Map, no, yes}
 use Rattle.jit_mapping.specs.Walked as W
+use Rattle.jit_mapping.specs.Walked.{Fit}
 use Rattle.jit_mapping.specs.Rows as R
 use Rattle.jit_mapping.specs.Rows.{Rising, closed_table, table_lines}
+
+-- the filter that is asked of
+abbrev pub filter_at : declared.Filter → Filter
+filter_at filter = record { program = filter.program.now; mode = filter.mode; ids = filter.ids.now; addresses = filter.addresses.now }
 
 -- a walk that is accepted, of a page that does not go on past the largest address; and how long its map's text is
 abbrev pub Accepted : Filter → (page : ℕ) → (start : Position) → (base : ℕ) → Type 0
@@ -47,15 +51,15 @@ abbrev pub fit_of : Filter → Flags → (page base room : ℕ) → Fit
 fit_of filter flags page base room = W.fit_at base room (size (prologue flags)) (blocks_in (walk_from filter page (size (prologue flags))))
 
 abbrev pub fit_in : Map → Fit
-fit_in (no r) = Not r
-fit_in (yes text) = Fits
+fit_in (no r) = Err r
+fit_in (yes text) = Ok tt
 
 abbrev pub Fitting : Filter → Flags → (code : MutSlice) → (base : ℕ) → (text : MutSlice) → Type 0
-Fitting filter flags code base text = fit_of filter flags (length code.now) base (length text.now) ≡ Fits
+Fitting filter flags code base text = fit_of filter flags (length code.now) base (length text.now) ≡ Ok tt
 
 -- the digits of addresses are counted, up to where a piece begins
 abbrev pub Counted : (base : ℕ) → Open → Type 0
-Counted base begun = IsWidth begun.width × (begun.width.digits ≤ length (hex (base + begun.from)))
+Counted base begun = begun.width.digits ≤ length (hex (base + begun.from))
 
 -- a piece is closed by an entry that is not 0: there is room for its line, and then the line stands there
 abbrev pub Closing : (text : MutSlice) → (base : ℕ) → Open → (place : ℕ) → Type 0

@@ -1,5 +1,5 @@
 -- The lines of a walk that is accepted, of which the first slot's code begins at `start`: those of its page (proofs/WalkedLaws.antt).
-use Rattle.std.specs.Prelude.{◌≡◌, List, ◌++◌, ℕ, ◌+◌, ◌≤◌, ◌<◌, ◌^◌, leb, ltb, length}
+use Rattle.std.specs.Prelude.{◌≡◌, List, ◌++◌, ℕ, ◌+◌, ◌≤◌, ◌<◌, ◌^◌, leb, ltb, length, ⊤, Result, Ok, Err}
 use Rattle.base.specs.Pick.{pick}
 use Rattle.code.specs.declared.Piece.TheVariants.{Prologue, Epilogue}
 use Rattle.code.specs.Lines.{Line, line, slot_lines}
@@ -13,9 +13,8 @@ use Rattle.jit.specs.Passes.{walk_from}
 use Rattle.jit.specs.Translation.{Filter, Block, Walk, slots_of, flat}
 use Rattle.jit_walk.specs.Acceptable.{Acceptable}
 use Rattle.map.specs.MapText.{text_of}
+use Rattle.jit_mapping.specs.declared.Refusal.{Refusal}
 use Rattle.jit_mapping.specs.declared.Refusal.TheVariants.{BaseTooHigh, TextTooShort}
-use Rattle.jit_mapping.specs.declared.mapped.Fit.{Fit}
-use Rattle.jit_mapping.specs.declared.mapped.Fit.TheVariants.{Fits, Not}
 
 abbrev pub walk_lines : (base start : ℕ) → List Block → List Line
 walk_lines base start bs =
@@ -26,10 +25,13 @@ pub record Accepted (n page start base : ℕ) (w : Walk) : Type 0 where
   pub low : base + (start + size (flat walk.bs)) + epilogue_size < 2 ^ 64
 
 -- The verdict on the map of blocks: its page goes on past the largest address, or its text has no room, or it fits.
+abbrev pub Fit : Type 0
+Fit = Result ⊤ Refusal
+
 abbrev pub fit_at : (base room start : ℕ) → List Block → Fit
 fit_at base room start bs =
     pick (ltb (base + (start + size (flat bs) + epilogue_size)) (2 ^ 64))
-    (pick (leb (length (text_of (walk_lines base start bs))) room) Fits (Not TextTooShort)) (Not BaseTooHigh)
+    (pick (leb (length (text_of (walk_lines base start bs))) room) (Ok tt) (Err TextTooShort)) (Err BaseTooHigh)
 
 -- what it is asked of
 pub record Judging (filter : Filter) (flags : Flags) (page : ℕ) : Type 0 where

@@ -4,6 +4,7 @@
 
 ghost use Rattle.std.specs.Prelude.{◌≡◌};
 ghost use Rattle.jit_mapping.specs.Refusals.{number_of, slot_of};
+ghost use Rattle.jit_mapping.specs.declared.Refusal.TheVariants.{Translation};
 
 use jit::Refusal as Untranslated;
 
@@ -25,17 +26,23 @@ pub enum Refusal {
     TextTooShort,
 }
 
-// Accepted: how many bytes of code, entries of the jump tables and bytes of text there are.
-#[derive(Clone, Copy)]
-pub enum Answer {
-    Accepted {
-        length: usize,
-        jumps: usize,
-        text: usize,
-    },
-    Refused(Refusal),
+impl From<Untranslated> for Refusal {
+    ghost from_gives = { λ untranslated refusal. refusal ≡ Translation untranslated };
+
+    fn from(untranslated: Untranslated) -> Refusal {
+        Refusal::Translation(untranslated)
+    }
 }
 
+// How many bytes of code, entries in each jump table and bytes of text there are.
+#[derive(Clone, Copy)]
+pub struct Accepted {
+    pub length: usize,
+    pub jumps: usize,
+    pub text: usize,
+}
+
+// The two stay functions: the contract of `ndakoleem_translate_mapped_1` says its numbers by the definitions of their names.
 pub fn number_of(refusal: Refusal) -> u8
     ensures { result ≡ number_of refusal }
 {

@@ -1,134 +1,122 @@
 // The translator that also writes the page's map. It is `decide_mapped`, the translator's `decide` and whether the map has its addresses and its
 // room, which writes nothing; and then `write_mapped`, the page and the map, which refuses nothing.
-ghost use Rattle.std.specs.Prelude.{◌≡◌, ◌≤◌, leb, length};
-ghost use Rattle.jit.specs.Lent.{filter_in, filter_of};
+ghost use Rattle.std.specs.Prelude.{◌≡◌, ◌≤◌, leb, length, Ok};
+ghost use Rattle.jit.specs.Lent.{filter_in};
 ghost use Rattle.jit.specs.Passes.{WithinLimits};
 ghost use Rattle.jit.specs.Room.{longest_prologue};
-ghost use Rattle.jit_walk.specs.Lent.{IsTable};
-ghost use Rattle.jit_walk.specs.declared.verdict.Verdict.TheVariants.{Good};
 ghost use Rattle.jit_translate.specs.Translated.{Decided};
 ghost use Rattle.jit_translate.specs.Lent.{sized, inputs, asked};
 ghost use Rattle.jit_mapping.specs.Mapped.{map_of};
-ghost use Rattle.jit_mapping.specs.Passes.{Walked, Accepted, code_length, text_length, is_low, Judging, fit_of, fit_in, Fitting};
+ghost use Rattle.jit_mapping.specs.Passes.{filter_at, Walked, Accepted as AcceptedWalk, code_length, text_length, is_low, Judging, fit_of, fit_in, Fitting};
 ghost use Rattle.jit_mapping.specs.Lent.{Mapped};
 
 use crate::measure::text_length;
 use crate::write::write_map;
-use crate::{Answer, LONGEST_LINE, Refusal};
+use crate::{Accepted, LONGEST_LINE, Refusal};
 use base::Position;
-use ebpf::kind;
+use ebpf::kind::Opcodes;
 use jit::{Flags, Mode};
 use jit_measuring::measure;
-use jit_measuring::measure::Measured;
 use jit_translate::translate;
-use jit_walk::verdict::Verdict;
 
-// Whether there is a map, and if not, why.
+// The program and what its slots are read by, as the definition has them together (`Filter` of jit/specs/Translation.antt).
 #[derive(Clone, Copy)]
-pub enum Fit {
-    Fits,
-    Not(Refusal),
+struct Filter<'a> {
+    program: &'a [u8],
+    mode: Mode,
+    ids: &'a [u32],
+    addresses: &'a [u64],
 }
 
-// Of a program that is accepted; `kinds` is the opcode table, `start` where the first slot's code begins.
-fn code_length(
-    kinds: &[u8; 256],
-    prog: &[u8],
-    mode: Mode,
-    ids: &[u32],
-    addresses: &[u64],
-    page: usize,
-    start: Position,
-) -> usize
-    requires table { IsTable kinds × WithinLimits prog ids addresses page start }
-    requires walked { Walked (filter_in prog mode ids addresses) page start }
-    ensures { result ≡ code_length (filter_of prog mode ids addresses) page start }
+// Of a program that is accepted; `start` is where the first slot's code begins.
+fn code_length(opcodes: &Opcodes, filter: Filter, page: usize, start: Position) -> usize
+    requires limits { WithinLimits filter.program filter.ids filter.addresses page start }
+    requires walked { Walked (filter_at filter) page start }
+    ensures { result ≡ code_length (filter_at filter.entry) page start }
 {
-    match measure::measure(kinds, prog, mode, ids, addresses, page, start) {
-        Measured::Done { end, bad: _ } => end.offset + jit::EPILOGUE_SIZE,
-        Measured::Refused(_) => 0,
-    }
+    let measured = measure::measure(
+        opcodes,
+        filter.program,
+        filter.mode,
+        filter.ids,
+        filter.addresses,
+        page,
+        start,
+    );
+    measured.unwrap().end.offset + jit::EPILOGUE_SIZE
 }
 
 // Whether every byte behind the code has an address. The code is no longer than the page, so that it is measured near the largest address alone.
-fn is_low(
-    kinds: &[u8; 256],
-    prog: &[u8],
-    mode: Mode,
-    ids: &[u32],
-    addresses: &[u64],
-    page: usize,
-    start: Position,
-    base: u64,
-) -> bool
-    requires table { IsTable kinds × WithinLimits prog ids addresses page start }
-    requires walked { Walked (filter_in prog mode ids addresses) page start }
-    ensures { result ≡ is_low (filter_of prog mode ids addresses) page start base }
+fn is_low(opcodes: &Opcodes, filter: Filter, page: usize, start: Position, base: u64) -> bool
+    requires limits { WithinLimits filter.program filter.ids filter.addresses page start }
+    requires walked { Walked (filter_at filter) page start }
+    ensures { result ≡ is_low (filter_at filter.entry) page start base }
 {
     if base <= u64::MAX - page as u64 {
         return true;
     }
-    let length = code_length(kinds, prog, mode, ids, addresses, page, start);
+    let length = code_length(opcodes, filter, page, start);
     base <= u64::MAX - length as u64
 }
 
 // Whether the text has room. It is measured where there is less room than the longest lines would take.
 fn has_room(
-    kinds: &[u8; 256],
-    prog: &[u8],
-    mode: Mode,
-    ids: &[u32],
-    addresses: &[u64],
+    opcodes: &Opcodes,
+    filter: Filter,
     page: usize,
     start: Position,
     base: u64,
     room: usize,
 ) -> bool
-    requires table { IsTable kinds × WithinLimits prog ids addresses page start }
-    requires accepted { Accepted (filter_in prog mode ids addresses) page start base × (start.offset ≤ longest_prologue) }
-    ensures { result ≡ leb (text_length (filter_of prog mode ids addresses) page start base) room }
+    requires limits { WithinLimits filter.program filter.ids filter.addresses page start }
+    requires accepted { AcceptedWalk (filter_at filter) page start base × (start.offset ≤ longest_prologue) }
+    ensures { result ≡ leb (text_length (filter_at filter.entry) page start base) room }
 {
-    if LONGEST_LINE * (prog.len() / 8 + 2) <= room {
+    if LONGEST_LINE * (filter.program.len() / 8 + 2) <= room {
         return true;
     }
-    text_length(kinds, prog, mode, ids, addresses, page, start, base) <= room
+    let length = text_length(
+        opcodes,
+        filter.program,
+        filter.mode,
+        filter.ids,
+        filter.addresses,
+        page,
+        start,
+        base,
+    );
+    length <= room
 }
 
-// `page` and `room` are the lengths of the code buffer and of the text buffer.
+// Whether the map fits, and if not, why; `page` and `room` are the lengths of the code buffer and of the text buffer.
 fn judge_map(
-    kinds: &[u8; 256],
-    prog: &[u8],
+    opcodes: &Opcodes,
+    filter: Filter,
     flags: Flags,
-    mode: Mode,
-    ids: &[u32],
-    addresses: &[u64],
     page: usize,
     base: u64,
     room: usize,
-) -> Fit
-    requires { IsTable kinds × Judging (filter_in prog mode ids addresses) flags page }
-    ensures { result ≡ fit_of (filter_of prog mode ids addresses) flags page base room }
+) -> Result<(), Refusal>
+    requires { Judging (filter_at filter) flags page }
+    ensures { result ≡ fit_of (filter_at filter.entry) flags page base room }
 {
     let start = Position {
         offset: translate::prologue_size(flags),
     };
-    if !is_low(kinds, prog, mode, ids, addresses, page, start, base) {
-        return Fit::Not(Refusal::BaseTooHigh);
+    if !is_low(opcodes, filter, page, start, base) {
+        return Err(Refusal::BaseTooHigh);
     }
-    if !has_room(kinds, prog, mode, ids, addresses, page, start, base, room) {
-        return Fit::Not(Refusal::TextTooShort);
+    if !has_room(opcodes, filter, page, start, base, room) {
+        return Err(Refusal::TextTooShort);
     }
-    Fit::Fits
+    Ok(())
 }
 
 // Whether `translate` accepts, and then whether there is a map; the lengths are those of what is lent. It writes nothing.
 fn decide_mapped(
-    numbers: &[u8; 256],
-    prog: &[u8],
+    opcodes: &Opcodes,
+    filter: Filter,
     flags: Flags,
-    mode: Mode,
-    ids: &[u32],
-    addresses: &[u64],
     page: usize,
     locations: usize,
     fields: usize,
@@ -137,21 +125,29 @@ fn decide_mapped(
     makers: usize,
     base: u64,
     room: usize,
-) -> Fit
-    requires { IsTable numbers }
-    ensures { result ≡ fit_in (map_of (sized (filter_of prog mode ids addresses) flags page locations fields targets kinds makers) base room) }
+) -> Result<(), Refusal>
+    ensures { result ≡ fit_in (map_of (sized (filter_at filter.entry) flags page locations fields targets kinds makers) base room) }
 {
-    match translate::decide_in(
-        numbers, prog, flags, mode, ids, addresses, page, locations, fields, targets, kinds, makers,
-    ) {
-        Verdict::Not(refusal) => Fit::Not(Refusal::Translation(refusal)),
-        Verdict::Good => judge_map(numbers, prog, flags, mode, ids, addresses, page, base, room),
-    }
+    translate::decide_in(
+        opcodes,
+        filter.program,
+        flags,
+        filter.mode,
+        filter.ids,
+        filter.addresses,
+        page,
+        locations,
+        fields,
+        targets,
+        kinds,
+        makers,
+    )?;
+    judge_map(opcodes, filter, flags, page, base, room)
 }
 
 // The page, the tables and the map of a program that is accepted, where the map fits.
 fn write_mapped(
-    numbers: &[u8; 256],
+    opcodes: &Opcodes,
     prog: &[u8],
     flags: Flags,
     mode: Mode,
@@ -165,27 +161,22 @@ fn write_mapped(
     makers: &mut [u32],
     base: u64,
     text: &mut [u8],
-) -> Answer
-    requires table { IsTable numbers }
-    requires decided { Decided (inputs prog flags mode ids addresses code locations fields targets kinds makers) Good }
+) -> Accepted
+    requires decided { Decided (inputs prog flags mode ids addresses code locations fields targets kinds makers) (Ok tt) }
     requires fitting { Fitting (filter_in prog mode ids addresses) flags code base text }
     ensures { Mapped (asked prog flags mode ids addresses code locations fields targets kinds makers) base
-        code locations fields targets kinds makers text result }
+        code locations fields targets kinds makers text (Ok result) }
 {
     let n = prog.len() / 8;
-    match translate::write_page(
-        numbers, prog, flags, mode, ids, addresses, code, locations, fields, targets, kinds, makers,
-    ) {
-        translate::Answer::Accepted { length, jumps } => {
-            let exit = length - jit::EPILOGUE_SIZE;
-            let end = write_map(locations, n, exit, base, text);
-            Answer::Accepted {
-                length: length,
-                jumps: jumps,
-                text: end,
-            }
-        }
-        translate::Answer::Refused(refusal) => Answer::Refused(Refusal::Translation(refusal)),
+    let page = translate::write_page(
+        opcodes, prog, flags, mode, ids, addresses, code, locations, fields, targets, kinds, makers,
+    );
+    let exit = page.length - jit::EPILOGUE_SIZE;
+    let end = write_map(locations, n, exit, base, text);
+    Accepted {
+        length: page.length,
+        jumps: page.jumps,
+        text: end,
     }
 }
 
@@ -205,18 +196,21 @@ pub fn translate_mapped(
     makers: &mut [u32],
     base: u64,
     text: &mut [u8],
-) -> Answer
+) -> Result<Accepted, Refusal>
     ensures { Mapped (asked prog flags mode ids addresses code locations fields targets kinds makers) base
         code locations fields targets kinds makers text result }
 {
-    let numbers = kind::KINDS;
-    match decide_mapped(
-        &numbers,
-        prog,
-        flags,
+    let opcodes = Opcodes::new();
+    let filter = Filter {
+        program: prog,
         mode,
         ids,
         addresses,
+    };
+    decide_mapped(
+        &opcodes,
+        filter,
+        flags,
         code.len(),
         locations.len(),
         fields.len(),
@@ -225,11 +219,9 @@ pub fn translate_mapped(
         makers.len(),
         base,
         text.len(),
-    ) {
-        Fit::Not(refusal) => Answer::Refused(refusal),
-        Fit::Fits => write_mapped(
-            &numbers, prog, flags, mode, ids, addresses, code, locations, fields, targets, kinds,
-            makers, base, text,
-        ),
-    }
+    )?;
+    Ok(write_mapped(
+        &opcodes, prog, flags, mode, ids, addresses, code, locations, fields, targets, kinds,
+        makers, base, text,
+    ))
 }

@@ -2,13 +2,12 @@
 ghost use Rattle.std.specs.Prelude.{◌≡◌, ◌+◌, ◌≤◌, ◌<◌, ◌^◌, length};
 ghost use Rattle.jit.specs.Room.{epilogue_size};
 ghost use Rattle.jit_mapping.specs.Rows.{piece_at};
-ghost use Rattle.text.specs.Lent.{IsPairs};
 ghost use Rattle.jit_mapping.specs.Passes.{Counted, Closing, Closed, place_at, WithRoom, SaysRows};
 
 use base::Slot;
 use code::Piece;
 use map::line::put_line;
-use text::digits::{PAIRS, Width, one_digit, widen};
+use text::digits::{Pairs, Width};
 
 // The piece whose end is not known yet, where it begins in the page, where its line begins in the text, and how wide the addresses are so far.
 #[derive(Clone, Copy)]
@@ -22,13 +21,13 @@ pub struct Open {
 // An entry ends the piece before it, unless it is 0, as that of a second half.
 fn close(
     text: &mut [u8],
-    pairs: &[u16; 256],
+    pairs: &Pairs,
     base: u64,
     begun: Open,
     place: usize,
     opened: Piece,
 ) -> Open
-    requires { IsPairs pairs × (Counted base begun × Closing text base begun place) }
+    requires { Counted base begun × Closing text base begun place }
     ensures { Counted base result × Closed text base begun place opened result }
 {
     if place == 0 {
@@ -37,13 +36,13 @@ fn close(
     let piece = begun.piece;
     let start = base + begun.from as u64;
     let bytes = (place - begun.from) as u64;
-    let width = widen(begun.width, start);
+    let width = begun.width.widen(start);
     let next = put_line(text, begun.next, pairs, width.digits, start, bytes, piece);
     Open {
         piece: opened,
         from: place,
-        next: next,
-        width: width,
+        next,
+        width,
     }
 }
 
@@ -75,19 +74,17 @@ pub fn write_map(locations: &[u32], n: usize, exit: usize, base: u64, text: &mut
     requires { WithRoom locations n exit base text × (n < 2 ^ 16) }
     ensures { SaysRows locations n exit base text result }
 {
-    let pairs = PAIRS;
+    let pairs = Pairs::new();
     let mut begun = Open {
         piece: Piece::Prologue,
         from: 0,
         next: 0,
-        width: one_digit(),
+        width: Width::one_digit(),
     };
-    let mut k = 0;
-    while k < n + 2 {
+    for k in 0..n + 2 {
         let place = place_at(locations, n, exit, k);
         let opened = piece_at(n, k);
         begun = close(text, &pairs, base, begun, place, opened);
-        k += 1;
     }
     begun.next
 }

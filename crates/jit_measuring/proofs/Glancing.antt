@@ -1,11 +1,11 @@
 -- What holds at the head of the quick check's loop, how a slot takes it on, and what it comes to.
+use Rattle.std.proofs.Common.{None}
 use mathlib.Core.Path.{◌≡◌, ◌∙◌, refl, sym}
 use mathlib.Core.Bool.{Bool}
 use mathlib.Core.List.{List, [], ◌∷◌, ◌++◌}
 use Prim.Native.Nat.{ℕ, ◌+◌, ◌*◌, ◌<◌, ◌≤◌}
 use native.Mathlib.Omega.{arith}
 use lib.ListN.{length}
-use Rattle.jit.specs.declared.Bad.TheVariants.{Nowhere}
 use Rattle.jit.specs.declared.Refusal.{Refusal}
 use Rattle.x86.specs.Code.{size}
 use Rattle.jit.specs.Room.{short_slot, epilogue_size}
@@ -23,7 +23,7 @@ pub record Glancing (filter : Filter) (page start n slot spare : ℕ) : Type 0 w
   pub place : ℕ
   pub sofar : Sofar filter page start (walk_from filter page start) bs slot place
   pub room : place + spare + short_slot * n + epilogue_size ≤ page + short_slot * slot
-  pub good : first_bad n 0 bs ≡ Nowhere
+  pub good : first_bad n 0 bs ≡ None
 
 pub glancing-begins : (filter : Filter) (page start n spare : ℕ) → start + spare + short_slot * n + epilogue_size ≤ page
     → Glancing filter page start n 0 spare

@@ -1,4 +1,5 @@
 -- The targets that each kind of slot lists, and what comes behind it.
+use Rattle.std.proofs.Common.{Some, None}
 use mathlib.Core.Path.{◌≡◌, ◌∙◌, refl}
 use mathlib.Core.Bool.{Bool, true, false}
 use mathlib.Core.List.{[], ◌∷◌, append-nil}
@@ -20,7 +21,6 @@ use Rattle.x86.specs.Registers.{RCX}
 use Rattle.x86.specs.Instr.{op, alu, MOV}
 use Rattle.x86.specs.Code.{targets_of}
 use Rattle.x86.proofs.CodeLaws.{targets-append}
-use Rattle.jit.specs.declared.Bad.TheVariants.{Nowhere, At}
 use Rattle.jit.specs.declared.Mode.{Mode}
 use Rattle.jit.specs.MulDivMod.{Code, when, guard, computed}
 use Rattle.jit.specs.Slots.{reg_of, target_of, mul_div_mod_code, cleared, truncated, jump_code, swap, call_code, slot_code}
@@ -56,16 +56,16 @@ guarded m o w slot i =
     targets-append (guard m o slot w s d) (computed o w operand d) ∙ rw none (append-nil (targets_of (guard m o slot w s d)))
 
 -- a target up to n is good
-pub near-good : (n slot t : ℕ) (c : Code) → targets_of c ≡ t ∷ [] → t ≤ n → bad_in n slot (targets_of c) ≡ Nowhere
+pub near-good : (n slot t : ℕ) (c : Code) → targets_of c ≡ t ∷ [] → t ≤ n → bad_in n slot (targets_of c) ≡ None
 unfolding good_target
 near-good n slot t c e h = rw (e, le-leb _ _ h)
 
-pub none-good : (n slot : ℕ) (c : Code) → targets_of c ≡ [] → bad_in n slot (targets_of c) ≡ Nowhere
+pub none-good : (n slot : ℕ) (c : Code) → targets_of c ≡ [] → bad_in n slot (targets_of c) ≡ None
 none-good n slot c e = rw e
 
 -- multiplication and division list no jump, or one to the next slot
 operation-good : (m : Mode) (n slot : ℕ) (o : MulOp) (w : Width) (s : Source) (i : Insn) → slot < n
-    → bad_in n slot (targets_of (mul_div_mod_code m o w s slot i)) ≡ Nowhere
+    → bad_in n slot (targets_of (mul_div_mod_code m o w s slot i)) ≡ None
 operation-good m n slot o w Imm i h = none-good n slot (mul_div_mod_code m o w Imm slot i) (empty _ (imm-jumps m o w (reg_of i.dst) i.imm))
 operation-good m n slot Mul w Reg i h = none-good n slot (mul_div_mod_code m Mul w Reg slot i) (guarded m Mul w slot i)
 operation-good m n slot Div w Reg i h = near-good n slot (slot + 1) (mul_div_mod_code m Div w Reg slot i) (guarded m Div w slot i) (omega (arith, h))
@@ -73,7 +73,7 @@ operation-good m n slot Mod w Reg i h = near-good n slot (slot + 1) (mul_div_mod
 
 -- .. and what standard mode puts ahead of them none
 pub divide-good : (m : Mode) (n slot : ℕ) (o : MulOp) (w : Width) (s : Source) (i : Insn) → slot < n
-    → bad_in n slot (targets_of (slot_code m (MulDivMod o w s) slot i 0)) ≡ Nowhere
+    → bad_in n slot (targets_of (slot_code m (MulDivMod o w s) slot i 0)) ≡ None
 divide-good m n slot o w s i h =
     let none = empty (targets_of (cleared m o w s i)) (cleared-jumps m o w s i) in
     rw (targets-append (cleared m o w s i) (mul_div_mod_code m o w s slot i), none) (operation-good m n slot o w s i h)
@@ -83,6 +83,6 @@ pub next-jump : (n slot t : ℕ)
     → (false ≡ wide_of (pick (good_target n t) Following Lost)) × (bad_in n slot (t ∷ []) ≡ bad_of (pick (good_target n t) Following Lost) slot)
 next-jump n slot t = by (good_target n t)
   where
-    by : (b : Bool) → (false ≡ wide_of (pick b Following Lost)) × (pick b Nowhere (At (at slot)) ≡ bad_of (pick b Following Lost) slot)
+    by : (b : Bool) → (false ≡ wide_of (pick b Following Lost)) × (pick b None (Some (at slot)) ≡ bad_of (pick b Following Lost) slot)
     by true = (refl, refl)
     by false = (refl, refl)

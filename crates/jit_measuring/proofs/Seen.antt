@@ -1,4 +1,5 @@
 -- The step of a slot that is looked at, as the passes come to know it: its bytes, its registers, its opcode's entry in the table.
+use Rattle.std.proofs.Common.{Some, None}
 use mathlib.Core.Path.{◌≡◌, ◌∙◌, refl, ap}
 use mathlib.Core.Bool.{Bool, true, false}
 use mathlib.Core.List.{List}
@@ -14,14 +15,12 @@ use Rattle.ebpf.specs.Opcode.{kind_of}
 use Rattle.ebpf.specs.Kinds.{numbers, number_of, UNKNOWN, UNIMPLEMENTED}
 use Rattle.ebpf.proofs.KindsLaws.{number-at, in_table}
 use Rattle.ebpf.specs.declared.insn.Insn.{Insn}
-use Rattle.ebpf.specs.declared.insn.Read.TheVariants.{Whole, Torn}
 use Rattle.ebpf.specs.declared.insn.Tail.TheVariants as Tail
 use Rattle.ebpf.specs.declared.insn.Tail.TheVariants.{Nothing}
 use Rattle.ebpf.specs.declared.kind.Kind.{Kind}
 use Rattle.ebpf.specs.declared.kind.Kind.TheVariants.{LdAbs, LdInd, LdDwImm, LdReg, StImm, StReg, Alu, Shift, Neg, MulDivMod, Mov, Le, Be, Ja, Jump, Call, Exit}
 use Rattle.ebpf.specs.declared.kind.Lookup.{Lookup}
 use Rattle.ebpf.specs.declared.kind.Lookup.TheVariants.{Known, Unimplemented, Unknown}
-use Rattle.jit.specs.declared.Bad.TheVariants.{Nowhere}
 use Rattle.jit.specs.declared.Refusal.{Refusal}
 use Rattle.x86.specs.Code.{targets_of}
 use Rattle.jit.specs.Slots.{slot_code}
@@ -32,11 +31,11 @@ use Rattle.jit_walk.proofs.Entries.{kind_is}
 use Rattle.jit_lengths.specs.Lengths.{Ordinary}
 use Rattle.jit_measuring.proofs.Listed.{none-good, divide-good}
 
-pub read-there : (program : List ℕ) (slot : ℕ) → 8 * slot + 8 ≤ length program → read_at program slot ≡ Whole (insn_at program slot)
+pub read-there : (program : List ℕ) (slot : ℕ) → 8 * slot + 8 ≤ length program → read_at program slot ≡ Some (insn_at program slot)
 unfolding read_at
 read-there program slot h = rw (le-ltb _ _ h)
 
-pub read-torn : (program : List ℕ) (slot : ℕ) → length program < 8 * slot + 8 → read_at program slot ≡ Torn
+pub read-torn : (program : List ℕ) (slot : ℕ) → length program < 8 * slot + 8 → read_at program slot ≡ None
 unfolding read_at
 read-torn program slot h = rw (lt-ltb _ _ h)
 
@@ -116,7 +115,7 @@ module _ (filter : Filter) {n slot : ℕ} (s : Seen filter.program n slot) where
   pub record Plainly (k : Kind) : Type 0 where
     pub takes : operand_in filter k slot i ≡ has 0
     pub narrow : wide_kind k ≡ false
-    pub good : bad_in n slot (targets_of (slot_code filter.mode k slot i 0)) ≡ Nowhere
+    pub good : bad_in n slot (targets_of (slot_code filter.mode k slot i 0)) ≡ None
 
   ordinary : (k : Kind) → Ordinary (number_of (Known k)) → Plainly k
   ordinary (LdAbs z) p = record { takes = refl; narrow = refl; good = refl }

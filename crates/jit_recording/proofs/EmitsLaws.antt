@@ -1,4 +1,5 @@
 -- The laws of `Put`, `Emits` and `Recorded`: code that lists no jump, code that ends in one, one piece of code behind another.
+use Rattle.std.proofs.Math.Seq.{length-sets}
 use Rattle.std.proofs.Common.{◌≡◌, ℕ, ◌+◌, ◌-◌, ◌<◌, List, [], ◌∷◌, ◌++◌, length, get_or, set, refl, ap, ◌∙◌, arith, length-append, get_or-set_same}
 use Rattle.base.proofs.Lists.{empty, sets-append}
 use Rattle.x86.specs.Instr.{Jump, jump}
@@ -19,6 +20,10 @@ put-none {k = k} = record { next = omega arith; is = refl }
 pub puts : {l l₁ l₂ : List ℕ} {k r₁ r₂ : ℕ} {xs ys : List ℕ} → Put l l₁ k r₁ xs → Put l₁ l₂ r₁ r₂ ys → Put l l₂ k r₂ (xs ++ ys)
 puts {l} {k = k} {xs = xs} {ys = ys} p q =
     record { next = omega (arith, length-append xs ys, p.next, q.next); is = q.is ∙ rw (p.is, p.next) (sets-append l k xs ys) }
+
+-- .. leave the table as long as it was
+pub put-length : {l l' : List ℕ} {k r : ℕ} {ys : List ℕ} → Put l l' k r ys → length l' ≡ length l
+put-length {l} {k = k} {ys = ys} p = ap length p.is ∙ length-sets l k ys
 
 -- what stands in a table at the entry that was put there
 pub entry : {l l' : List ℕ} {k r x : ℕ} → Put l l' k r (x ∷ []) → k < length l → get_or l' k 0 ≡ x
@@ -78,12 +83,12 @@ emits_then {at = at} {at₁ = at₁} {maker = maker} a b p q =
       makers = rw (targets-append a b, each_append maker (targets_of a) (targets_of b)) (puts p.makers q.makers);
     }
 
-pub jumped : {c c' : List ℕ} {t t' : Tables} {at end at' j j' target maker : ℕ} (is : Code) (k : Jump) → targets_of is ≡ []
-    → Wrote c c' at end (blanks (is ++ (jump k (to target) ∷ []))) → Recorded t t' end j at' j' target (jump_kind k) maker
-    → Emits c c' t t' at j at' j' maker (is ++ (jump k (to target) ∷ []))
+pub jumped : {c c' : List ℕ} {t t' : Tables} {at end j j' target maker : ℕ} (is : Code) (k : Jump) → targets_of is ≡ []
+    → Wrote c c' at end (blanks (is ++ (jump k (to target) ∷ []))) → Recorded t t' end j j' target (jump_kind k) maker
+    → Emits c c' t t' at j end j' maker (is ++ (jump k (to target) ∷ []))
 jumped {t = t} {end = end} {j = j} {target = target} {maker = maker} is k e w r =
     let v = jumping {t = t} {j = j} {maker = maker} is k target e w in
-    rw (r.at_is, r.next)
+    rw r.next
     (record {
       wrote = v.wrote;
       fields = rw r.field v.fields;

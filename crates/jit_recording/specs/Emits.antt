@@ -41,8 +41,7 @@ abbrev pub Recordable : (t : Tables) (at j maker : ℕ) → Type 0
 Recordable t at j maker = HasEntry t j × ((4 ≤ at) × ((at < 2 ^ 32) × (maker < 2 ^ 32)))
 
 -- the record of a jump whose field ends at `at` is entry j
-pub record Recorded (t t' : Tables) (at j at' j' goal kind maker : ℕ) : Type 0 where
-  pub at_is : at' ≡ at
+pub record Recorded (t t' : Tables) (at j j' goal kind maker : ℕ) : Type 0 where
   pub next : j' ≡ j + 1
   pub field : t'.fields ≡ slice_set t.fields j (at - 4)
   pub target : t'.targets ≡ slice_set t.targets j goal

@@ -1,45 +1,53 @@
--- `Emits`, `Room`, `Recordable` and `Recorded` (Emits.antt) of the parameters by their names (base/specs/Lent.antt): the page, the four jump
--- tables, the state before and behind.
-use Rattle.std.specs.Prelude.{ℕ}
+-- `Emits`, `Room`, `Recordable` and `Recorded` (Emits.antt) of the parameters by their names (base/specs/Lent.antt): the page, the place
+-- before and behind, and the jump tables, which are lent as one struct of four borrows.
+use Rattle.std.specs.Prelude.{◌≡◌, ℕ}
+use Rattle.std.specs.Borrow.{MutBor}
+use denote.Triple.Both.{Both}
 use Rattle.base.specs.Lent.{MutSlice, MutLent}
 use Rattle.base.specs.declared.Position.{Position}
 use Rattle.base.specs.declared.Slot.{Slot}
 use Rattle.jit.specs.MulDivMod.{Code}
-use Rattle.jit_recording.specs.declared.emission.Emission.{Emission}
+use Rattle.jit_recording.specs.declared.emission.JumpTables.{JumpTables}
 use Rattle.jit_recording.specs.Emits as E
 
--- emitting has got to `at`, and has recorded that many jumps
-abbrev pub reached : Position → (jumps : ℕ) → Emission
-reached at jumps = record { at = at; jumps = jumps }
+-- in a `requires`, and in an `ensures`
+abbrev pub MutTables : Type 0
+MutTables = MutBor JumpTables
 
--- nothing is written yet
-abbrev pub nothing : Emission
-nothing = reached (record { offset = 0 }) 0
+abbrev pub TablesLent : Type 0
+TablesLent = Both MutTables MutTables
 
--- the jump tables at one moment; as they were lent, and as they are left
-abbrev pub tables : (fields targets kinds makers : MutSlice) → E.Tables
-tables fields targets kinds makers = record { fields = fields.now; targets = targets.now; kinds = kinds.now; makers = makers.now }
+-- what stands in the tables at one moment
+abbrev pub tables : JumpTables → E.Tables
+tables j = record { fields = j.fields.now; targets = j.targets.now; kinds = j.kinds.now; makers = j.makers.now }
 
-abbrev pub lent : (fields targets kinds makers : MutLent) → E.Tables
-lent fields targets kinds makers = tables fields.entry targets.entry kinds.entry makers.entry
+-- The struct holds the borrows that it held: without this a caller would not know that what it lent is what was written.
+pub record SameBorrows (before behind : JumpTables) : Type 0 where
+  pub fields : behind.fields.ghost_name ≡ before.fields.ghost_name
+  pub targets : behind.targets.ghost_name ≡ before.targets.ghost_name
+  pub kinds : behind.kinds.ghost_name ≡ before.kinds.ghost_name
+  pub makers : behind.makers.ghost_name ≡ before.makers.ghost_name
 
-abbrev pub left : (fields targets kinds makers : MutLent) → E.Tables
-left fields targets kinds makers = tables fields.exit targets.exit kinds.exit makers.exit
+-- where a page begins
+abbrev pub first : Position
+first = record { offset = 0 }
 
-abbrev pub Emits : (code fields targets kinds makers : MutLent) → (before behind : Emission) → (maker : Slot) → Code → Type 0
-Emits code fields targets kinds makers e r maker is =
+abbrev pub Emits : (code : MutLent) → (at r : Position) → (jumps : TablesLent) → (maker : Slot) → Code → Type 0
+Emits code at r jumps maker is =
     E.Emits
-    code.entry.now code.exit.now (lent fields targets kinds makers) (left fields targets kinds makers)
-    e.at.offset e.jumps r.at.offset r.jumps maker.number is
+    code.entry.now code.exit.now (tables jumps.entry.now) (tables jumps.exit.now)
+    at.offset jumps.entry.now.count r.offset jumps.exit.now.count maker.number is
+    × SameBorrows jumps.entry.now jumps.exit.now
 
-abbrev pub Room : (code fields targets kinds makers : MutSlice) → Emission → Code → Type 0
-Room code fields targets kinds makers e is = E.Room code.now (tables fields targets kinds makers) e.at.offset e.jumps is
+abbrev pub Room : (code : MutSlice) → Position → (jumps : MutTables) → Code → Type 0
+Room code at jumps is = E.Room code.now (tables jumps.now) at.offset jumps.now.count is
 
-abbrev pub Recordable : (fields targets kinds makers : MutSlice) → Emission → (maker : Slot) → Type 0
-Recordable fields targets kinds makers e maker = E.Recordable (tables fields targets kinds makers) e.at.offset e.jumps maker.number
+abbrev pub Recordable : (jumps : MutTables) → (at : Position) → (maker : Slot) → Type 0
+Recordable jumps at maker = E.Recordable (tables jumps.now) at.offset jumps.now.count maker.number
 
-abbrev pub Recorded : (fields targets kinds makers : MutLent) → (before behind : Emission) → (target kind : ℕ) → (maker : Slot) → Type 0
-Recorded fields targets kinds makers e r target kind maker =
+abbrev pub Recorded : (jumps : TablesLent) → (at : Position) → (target kind : ℕ) → (maker : Slot) → Type 0
+Recorded jumps at target kind maker =
     E.Recorded
-    (lent fields targets kinds makers) (left fields targets kinds makers)
-    e.at.offset e.jumps r.at.offset r.jumps target kind maker.number
+    (tables jumps.entry.now) (tables jumps.exit.now)
+    at.offset jumps.entry.now.count jumps.exit.now.count target kind maker.number
+    × SameBorrows jumps.entry.now jumps.exit.now

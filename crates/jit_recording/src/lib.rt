@@ -1,4 +1,4 @@
-// What every handler goes through: the running position with the jumps that are recorded, the register map, what the mode changes, and how a
+// What every handler goes through: the jump tables and how a jump is recorded in them, the register map, what the mode changes, and how a
 // constant is loaded.
 
 #![tactic(auto)]

@@ -11,36 +11,24 @@ use jit::Mode;
 pub fn copy_width(mode: Mode, width: Width) -> Width
     ensures { result ≡ copy_width mode width }
 {
-    if mode.standard {
-        return width;
-    }
-    Width::W64
+    if mode.standard { width } else { Width::W64 }
 }
 
 // MOD at 32 bits, by a register, which may be zero, or by the immediate 0.
 fn leaves_dst(op: MulOp, width: Width, source: Source, imm: u32) -> bool
     ensures { result ≡ leaves_dst op width source imm }
 {
-    match op {
-        MulOp::Mul => false,
-        MulOp::Div => false,
-        MulOp::Mod => match width {
-            Width::W32 => match source {
-                Source::Imm => imm == 0,
-                Source::Reg => true,
-            },
-            Width::W64 => false,
-        },
+    match (op, width, source) {
+        (MulOp::Mod, Width::W32, Source::Imm) => imm == 0,
+        (MulOp::Mod, Width::W32, Source::Reg) => true,
+        _ => false,
     }
 }
 
 pub fn clears(mode: Mode, op: MulOp, width: Width, source: Source, imm: u32) -> bool
     ensures { result ≡ clears mode op width source imm }
 {
-    if mode.standard {
-        return leaves_dst(op, width, source, imm);
-    }
-    false
+    mode.standard && leaves_dst(op, width, source, imm)
 }
 
 // A constant of 64 bits, and an immediate, which is extended by its sign.

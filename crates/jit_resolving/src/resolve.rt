@@ -12,10 +12,7 @@ fn location(locations: &[u32], n: Slot, exit: Position, target: u32) -> Position
     if target == jit::ANCHOR {
         return exit;
     }
-    let slot = Slot {
-        number: target as usize,
-    };
-    let number = slot.number;
+    let number = target as usize;
     if number <= n.number {
         return Position {
             offset: locations[number] as usize,
@@ -38,16 +35,11 @@ pub fn resolve_jumps(
     requires inside { Inside code fields count }
     ensures { Resolves code (place_in locations n exit) fields targets count }
 {
-    let mut k: usize = 0;
-    while k < count {
+    for k in 0..count {
         let field = fields[k];
         let place = location(locations, n, exit, targets[k]);
         let to = place.offset as u32;
         let end = std::num::wrapping_add_u32(field, 4);
-        let at = Position {
-            offset: field as usize,
-        };
-        x86_emit::bytes::store4(code, at.offset, std::num::wrapping_sub_u32(to, end));
-        k += 1;
+        x86_emit::bytes::store4(code, field as usize, std::num::wrapping_sub_u32(to, end));
     }
 }

@@ -1,5 +1,6 @@
 -- What an accepted translation is made of: the walk's blocks, each the code of one slot whose numbers are in range; and its code, tables
 -- and bounds, read off these.
+use Rattle.std.proofs.Common.{Option, Some, None}
 use mathlib.Core.Path.{◌≡◌, refl, ap, ◌∙◌, subst}
 use mathlib.Core.Bool.{Bool, true, false, ◌||◌}
 use mathlib.Core.List.{List, [], ◌∷◌, ◌++◌}
@@ -12,7 +13,6 @@ use Rattle.base.specs.Pick.{pick}
 use Rattle.ebpf.specs.Insn.{le2, extend, insn_at, read_at}
 use Rattle.ebpf.specs.Opcode.{kind_of}
 use Rattle.ebpf.specs.declared.insn.Insn.{Insn}
-use Rattle.ebpf.specs.declared.insn.Read.TheVariants.{Whole, Torn}
 use Rattle.ebpf.specs.declared.kind.Kind.{Kind}
 use Rattle.ebpf.specs.declared.kind.Kind.TheVariants.{LdAbs, LdInd, LdDwImm, LdReg, StImm, StReg, Alu, Shift, Neg, MulDivMod, Mov, Le, Be, Ja, Jump, Call, Exit}
 use Rattle.ebpf.specs.declared.kind.Lookup.{Lookup}
@@ -21,12 +21,9 @@ use Rattle.x86.specs.Code.{size, targets_of}
 use Rattle.x86.specs.Lowered.{code_of, fields_of}
 use Rattle.x86.proofs.CodeLaws.{targets-append, length-bytes}
 pub use Rattle.code.proofs.PageLaws.{Goods, goods-append}
-use Rattle.jit.specs.declared.Helper.{Helper}
-use Rattle.jit.specs.declared.Helper.TheVariants.{Address, Missing}
-use Rattle.jit.specs.declared.Bad.{Bad}
-use Rattle.jit.specs.declared.Bad.TheVariants.{Nowhere, At}
 use Rattle.jit.specs.declared.Refusal.{Refusal}
 use Rattle.base.proofs.Tests.{true-T}
+use Rattle.base.specs.declared.Slot.{Slot}
 use Rattle.jit.specs.declared.Flags.{Flags}
 use Rattle.jit.specs.declared.Mode.{Mode}
 use Rattle.jit.specs.Limits.{shortest_page, longest_page, longest_program, anchor}
@@ -84,14 +81,14 @@ module _ (x : Inputs) (given : Given x) where
       let at = 8 * slot + 4 in
       omega (arith, given.bytes at, given.bytes (at + 1), given.bytes (at + 2), given.bytes (at + 3))
 
-  helper-lt : (ids addresses : List ℕ) (id : ℕ) → ((k : ℕ) → get_or addresses k 0 < 2 ^ 64) → (a : ℕ) → helper_of ids addresses id ≡ Address a
+  helper-lt : (ids addresses : List ℕ) (id : ℕ) → ((k : ℕ) → get_or addresses k 0 < 2 ^ 64) → (a : ℕ) → helper_of ids addresses id ≡ Some a
       → a < 2 ^ 64
   unfolding helper_of
   helper-lt [] addresses id h a e = let z : ◌≡◌ {A = ℕ} 0 1 = cc in absurd (omega arith)
   helper-lt (i ∷ ids) [] id h a e = let z : ◌≡◌ {A = ℕ} 0 1 = cc in absurd (omega arith)
   helper-lt (i ∷ ids) (b ∷ addresses) id h a e = by (eqb i id) e (λ q. helper-lt ids addresses id (λ k. h (suc k)) a q)
     where
-      by : (t : Bool) → found t b (helper_of ids addresses id) ≡ Address a → (helper_of ids addresses id ≡ Address a → a < 2 ^ 64) → a < 2 ^ 64
+      by : (t : Bool) → found t b (helper_of ids addresses id) ≡ Some a → (helper_of ids addresses id ≡ Some a → a < 2 ^ 64) → a < 2 ^ 64
       by true q ih = let z : b ≡ a = cc in omega (arith, h 0)
       by false q ih = ih q
 
@@ -108,7 +105,7 @@ module _ (x : Inputs) (given : Given x) where
     Taken k o = Looks (Known k) → Comes x.filter slot (taken x.filter.mode k slot (insn_at x.filter.program slot) o)
 
     taken-wide : (t : Bool)
-        → Taken LdDwImm (wide_value slot (insn_at x.filter.program slot) (pick t Torn (Whole (insn_at x.filter.program (slot + 1)))))
+        → Taken LdDwImm (wide_value slot (insn_at x.filter.program slot) (pick t None (Some (insn_at x.filter.program (slot + 1)))))
     taken-wide true e = tt
     taken-wide false e = comes LdDwImm _ (omega (arith, imm_lt slot, imm_lt (slot + 1))) e
 
@@ -116,12 +113,12 @@ module _ (x : Inputs) (given : Given x) where
     taken-swap k true e = comes k 0 (omega arith) e
     taken-swap k false e = tt
 
-    abbrev helper : Helper
+    abbrev helper : Option ℕ
     helper = helper_of x.filter.ids x.filter.addresses (insn_at x.filter.program slot).imm
 
-    taken-helper : (h : Helper) → helper ≡ h → Taken Call (helper_value slot h)
-    taken-helper (Address a) q e = comes Call a (helper-lt x.filter.ids x.filter.addresses _ given.addresses a q) e
-    taken-helper Missing q e = tt
+    taken-helper : (h : Option ℕ) → helper ≡ h → Taken Call (helper_value slot h)
+    taken-helper (Some a) q e = comes Call a (helper-lt x.filter.ids x.filter.addresses _ given.addresses a q) e
+    taken-helper None q e = tt
 
     taken-call : (s t : Bool)
         → Taken Call (pick s (helper_value slot helper) (pick t (has 0) (lacks (Refusal.BadCall (record { number = slot })))))
@@ -167,7 +164,7 @@ module _ (x : Inputs) (given : Given x) where
       where
         by : (t : Bool)
             → Comes x.filter slot
-            (step_read x.filter slot (pick t Torn (Whole (insn_at x.filter.program slot)))
+            (step_read x.filter slot (pick t None (Some (insn_at x.filter.program slot)))
             (read_at x.filter.program (slot + 1)))
         by true = tt
         by false = let i = insn_at x.filter.program slot in registers-comes (good_registers i) (kind_of i.opc) refl
@@ -225,20 +222,20 @@ module _ (x : Inputs) (given : Given x) (few : length x.filter.program ≤ longe
       by false e ih = tt
 
 -- Every recorded target is a slot, n or the anchor.
-nowhere-both : (a b : Bad) → or_else a b ≡ Nowhere → (a ≡ Nowhere) × (b ≡ Nowhere)
-nowhere-both Nowhere b e = (refl, e)
-nowhere-both (At s) b e = let z : ◌≡◌ {A = ℕ} 0 1 = cc in absurd (omega arith)
+nowhere-both : (a b : Option Slot) → or_else a b ≡ None → (a ≡ None) × (b ≡ None)
+nowhere-both None b e = (refl, e)
+nowhere-both (Some s) b e = let z : ◌≡◌ {A = ℕ} 0 1 = cc in absurd (omega arith)
 
-goods-in : (n slot : ℕ) (ts : List ℕ) → bad_in n slot ts ≡ Nowhere → Goods n ts
+goods-in : (n slot : ℕ) (ts : List ℕ) → bad_in n slot ts ≡ None → Goods n ts
 goods-in n slot [] e = tt
 goods-in n slot (t ∷ ts) e = by (good_target n t) refl e (λ q. goods-in n slot ts q)
   where
-    by : (b : Bool) → good_target n t ≡ b → pick b (bad_in n slot ts) (At (record { number = slot })) ≡ Nowhere → (bad_in n slot ts ≡ Nowhere → Goods n ts)
+    by : (b : Bool) → good_target n t ≡ b → pick b (bad_in n slot ts) (Some (record { number = slot })) ≡ None → (bad_in n slot ts ≡ None → Goods n ts)
         → T (good_target n t) × Goods n ts
     by true q e ih = (true-T _ q, ih e)
     by false q e ih = let z : ◌≡◌ {A = ℕ} 0 1 = cc in absurd (omega arith)
 
-goods-blocks : (n slot : ℕ) (bs : List Block) → first_bad n slot bs ≡ Nowhere → Goods n (targets_of (flat bs))
+goods-blocks : (n slot : ℕ) (bs : List Block) → first_bad n slot bs ≡ None → Goods n (targets_of (flat bs))
 goods-blocks n slot [] e = tt
 goods-blocks n slot (b ∷ bs) e =
     let next = slot + slots_wide b.wide in
@@ -247,7 +244,7 @@ goods-blocks n slot (b ∷ bs) e =
     (goods-append n (targets_of b.code) (targets_of (flat bs)) (goods-in n slot (targets_of b.code) q.0) (goods-blocks n next bs q.1))
 
 -- the prologue's is the anchor, and the epilogue has none
-pub goods-whole : (n : ℕ) (f : Flags) (bs : List Block) → first_bad n 0 bs ≡ Nowhere → Goods n (targets_of (whole f bs))
+pub goods-whole : (n : ℕ) (f : Flags) (bs : List Block) → first_bad n 0 bs ≡ None → Goods n (targets_of (whole f bs))
 unfolding good_target
 goods-whole n f bs e =
     rw (targets-append (prologue f) (flat bs ++ epilogue), targets-append (flat bs) epilogue, prologue-targets f, epilogue-targets)
@@ -278,7 +275,7 @@ module _ (x : Inputs) (given : Given x) (code locs fields targets : List ℕ) wh
   f = x.flags
 
   parts-blocks : (bs : List Block) → walk_of x ≡ done bs → OriginsIn x.filter 0 bs → length code ≤ longest_code
-      → first_bad (slots_of x.filter.program) 0 bs ≡ Nowhere
+      → first_bad (slots_of x.filter.program) 0 bs ≡ None
       → accepted f bs ≡ yes code locs fields targets → Parts x code locs fields targets
   parts-blocks bs w o l g e =
       let place = place_of (locations f bs) (exit_of f bs) in
@@ -302,10 +299,10 @@ module _ (x : Inputs) (given : Given x) (code locs fields targets : List ℕ) wh
   parts-finish (refused r) q o l e = refuses e
   parts-finish (done bs) q o l e = by (leb (size (whole f bs)) x.page) (first_bad (slots_of x.filter.program) 0 bs) refl e
     where
-      by : (t : Bool) (b : Bad) → first_bad (slots_of x.filter.program) 0 bs ≡ b
+      by : (t : Bool) (b : Option Slot) → first_bad (slots_of x.filter.program) 0 bs ≡ b
           → pick t (unless_bad b (accepted f bs)) (no (Refusal.NoRoom (record { number = slots_of x.filter.program }))) ≡ yes code locs fields targets → Parts x code locs fields targets
-      by true Nowhere g e = parts-blocks bs q o l g e
-      by true (At s) g e = refuses e
+      by true None g e = parts-blocks bs q o l g e
+      by true (Some s) g e = refuses e
       by false b g e = refuses e
 
   bounded : translation_of x ≡ yes code locs fields targets → length code ≤ longest_code

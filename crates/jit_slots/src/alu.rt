@@ -51,6 +51,7 @@ fn alu_opcode(opc: u8) -> u8
     }
 }
 
+// Its extension, in a table of the same make.
 fn alu_extension(opc: u8) -> u8
     ensures { result ≡ alu_extension (jit.alu_of (alu_of opc)) }
 {
@@ -74,6 +75,7 @@ fn alu_extension(opc: u8) -> u8
     }
 }
 
+// .. and a shift's.
 fn shift_extension(opc: u8) -> u8
     ensures { result ≡ shift_extension (jit.shift_of (shift_of opc)) }
 {
@@ -217,13 +219,11 @@ fn emit_truncated(code: &mut [u8], at: Position, dst: u8, bits: u32) -> Position
     requires { Fits code at × (dst < 16) }
     ensures { Wrote code at result (blanks (truncated dst bits)) }
 {
-    if bits == 16 {
-        return alu::emit_alu_imm32(code, at, Width::W32, GROUP1, GROUP1_AND, dst, 0xffff);
+    match bits {
+        16 => alu::emit_alu_imm32(code, at, Width::W32, GROUP1, GROUP1_AND, dst, 0xffff),
+        32 => alu::emit_alu(code, at, Width::W32, MOV, dst, dst),
+        _ => at,
     }
-    if bits == 32 {
-        return alu::emit_alu(code, at, Width::W32, MOV, dst, dst);
-    }
-    at
 }
 
 // LE, for which the Rust has no code.
@@ -232,9 +232,10 @@ pub fn emit_le(code: &mut [u8], at: Position, mode: Mode, i: Insn) -> Position
     ensures { Wrote code at result (blanks (slot_code mode Le 0 i 0)) }
 {
     if mode.standard {
-        return emit_truncated(code, at, register::map_register(i.dst), i.imm);
+        emit_truncated(code, at, register::map_register(i.dst), i.imm)
+    } else {
+        at
     }
-    at
 }
 
 // BE: 16 is a rotation of the low half, with what is above cleared; 32 and 64 a byte swap.
@@ -243,12 +244,12 @@ pub fn emit_be(code: &mut [u8], at: Position, i: Insn) -> Position
     ensures { Wrote code at result (blanks (swap (reg_of i.dst) i.imm)) }
 {
     let dst = register::map_register(i.dst);
-    if i.imm == 16 {
-        let rotated = alu::emit_rol16(code, at, dst, 8);
-        return alu::emit_alu_imm32(code, rotated, Width::W32, GROUP1, GROUP1_AND, dst, 0xffff);
+    match i.imm {
+        16 => {
+            let rotated = alu::emit_rol16(code, at, dst, 8);
+            alu::emit_alu_imm32(code, rotated, Width::W32, GROUP1, GROUP1_AND, dst, 0xffff)
+        }
+        32 => alu::emit_bswap(code, at, Width::W32, dst),
+        _ => alu::emit_bswap(code, at, Width::W64, dst),
     }
-    if i.imm == 32 {
-        return alu::emit_bswap(code, at, Width::W32, dst);
-    }
-    alu::emit_bswap(code, at, Width::W64, dst)
 }

@@ -17,7 +17,7 @@ use ebpf::constants::{BPF_ALU_OP_MASK, BPF_JSET};
 use ebpf::insn::Insn;
 use ebpf::kind::Source;
 use jit::Mode;
-use jit_recording::emission::Emission;
+use jit_recording::emission::JumpTables;
 use jit_recording::{constant, emission, register};
 use x86::{
     CMP, GROUP1, GROUP1_CMP, GROUP3, GROUP3_TEST, JA, JAE, JB, JBE, JE, JG, JGE, JL, JLE, JNE, MOV,
@@ -27,31 +27,19 @@ use x86_emit::{alu, jump};
 
 pub fn emit_ja(
     code: &mut [u8],
-    fields: &mut [u32],
-    targets: &mut [u32],
-    kinds: &mut [u32],
-    makers: &mut [u32],
-    e: Emission,
+    at: Position,
+    jumps: &mut JumpTables<'_>,
     slot: Slot,
     i: Insn,
-) -> Emission
-    requires room { Room code fields targets kinds makers e (slot_code rust Ja slot.number i 0) }
+) -> Position
+    requires room { Room code at jumps (slot_code rust Ja slot.number i 0) }
     requires number_bound { slot.number < 2 ^ 16 }
-    ensures { Emits code fields targets kinds makers e result slot (slot_code rust Ja slot.number i 0) }
+    ensures { Emits code at result jumps slot (slot_code rust Ja slot.number i 0) }
 {
     let target = emission::target_of(slot, i.off);
-    let next = jump::emit_jmp(code, e.at, 0);
-    emission::record_jump(
-        fields,
-        targets,
-        kinds,
-        makers,
-        next,
-        e.jumps,
-        target,
-        jit::PLAIN,
-        slot,
-    )
+    let next = jump::emit_jmp(code, at, 0);
+    jumps.record_jump(next, target, jit::PLAIN, slot);
+    next
 }
 
 // The second byte of Jcc's opcode, by the upper half of the slot's (RFC 9669, section 4.3), in sixteen arms as in alu.rt.
@@ -110,34 +98,22 @@ fn emit_compare(code: &mut [u8], at: Position, width: Width, source: Source, i: 
 
 pub fn emit_jump(
     code: &mut [u8],
-    fields: &mut [u32],
-    targets: &mut [u32],
-    kinds: &mut [u32],
-    makers: &mut [u32],
-    e: Emission,
+    at: Position,
+    jumps: &mut JumpTables<'_>,
     width: Width,
     source: Source,
     slot: Slot,
     i: Insn,
-) -> Emission
-    requires room { Room code fields targets kinds makers e (jump_code (condition_of i.opc) width source slot.number i) }
+) -> Position
+    requires room { Room code at jumps (jump_code (condition_of i.opc) width source slot.number i) }
     requires dst_bound { (i.dst < 11) × ((i.src < 11) × (slot.number < 2 ^ 16)) }
-    ensures { Emits code fields targets kinds makers e result slot (jump_code (condition_of i.opc) width source slot.number i) }
+    ensures { Emits code at result jumps slot (jump_code (condition_of i.opc) width source slot.number i) }
 {
     let target = emission::target_of(slot, i.off);
-    let compared = emit_compare(code, e.at, width, source, i);
+    let compared = emit_compare(code, at, width, source, i);
     let next = jump::emit_jcc(code, compared, condition_byte(i.opc), 0);
-    emission::record_jump(
-        fields,
-        targets,
-        kinds,
-        makers,
-        next,
-        e.jumps,
-        target,
-        jit::CONDITIONAL,
-        slot,
-    )
+    jumps.record_jump(next, target, jit::CONDITIONAL, slot);
+    next
 }
 
 // RCX is kept free for shifts, so the fourth argument is copied to where the machine's calls have it.
@@ -150,7 +126,8 @@ fn emit_helper_call(code: &mut [u8], at: Position, mode: Mode, address: u64) -> 
     jump::emit_call_rax(code, loaded)
 }
 
-// r6 to r9 are the callee's to change: they are saved round the call.
+// r6 to r9 are the callee's to change: they are saved round the call. Four calls in a row and no loop over the four registers, here and below:
+// each call has its register as a constant, and a loop would need an invariant for bytes that are known.
 fn emit_saved_registers(code: &mut [u8], at: Position) -> Position
     requires { FitAll code at call_saves }
     ensures { Wrote code at result (blanks call_saves) }
@@ -173,69 +150,36 @@ fn emit_restored_registers(code: &mut [u8], at: Position) -> Position
 
 fn emit_local_call(
     code: &mut [u8],
-    fields: &mut [u32],
-    targets: &mut [u32],
-    kinds: &mut [u32],
-    makers: &mut [u32],
-    e: Emission,
+    at: Position,
+    jumps: &mut JumpTables<'_>,
     slot: Slot,
     target: u32,
-) -> Emission
-    requires { Room code fields targets kinds makers e (local_call target) × (slot.number < 2 ^ 16) }
-    ensures { Emits code fields targets kinds makers e result slot (local_call target) }
+) -> Position
+    requires { Room code at jumps (local_call target) × (slot.number < 2 ^ 16) }
+    ensures { Emits code at result jumps slot (local_call target) }
 {
-    let saved = emit_saved_registers(code, e.at);
+    let saved = emit_saved_registers(code, at);
     let called = jump::emit_call(code, saved, 0);
-    let recorded = emission::record_jump(
-        fields,
-        targets,
-        kinds,
-        makers,
-        called,
-        e.jumps,
-        target,
-        jit::LOCAL_CALL,
-        slot,
-    );
-    let at = emit_restored_registers(code, recorded.at);
-    Emission {
-        at: at,
-        jumps: recorded.jumps,
-    }
+    jumps.record_jump(called, target, jit::LOCAL_CALL, slot);
+    emit_restored_registers(code, called)
 }
 
 // CALL: src 0 is a helper at the address `value`, src 1 a call within the program.
 pub fn emit_call(
     code: &mut [u8],
-    fields: &mut [u32],
-    targets: &mut [u32],
-    kinds: &mut [u32],
-    makers: &mut [u32],
-    e: Emission,
+    at: Position,
+    jumps: &mut JumpTables<'_>,
     mode: Mode,
     slot: Slot,
     i: Insn,
     value: u64,
-) -> Emission
-    requires room { Room code fields targets kinds makers e (call_code mode slot.number i value) }
+) -> Position
+    requires room { Room code at jumps (call_code mode slot.number i value) }
     requires number_bound { slot.number < 2 ^ 16 }
-    ensures { Emits code fields targets kinds makers e result slot (call_code mode slot.number i value) }
+    ensures { Emits code at result jumps slot (call_code mode slot.number i value) }
 {
     if i.src == 0 {
-        let at = emit_helper_call(code, e.at, mode, value);
-        return Emission {
-            at: at,
-            jumps: e.jumps,
-        };
+        return emit_helper_call(code, at, mode, value);
     }
-    emit_local_call(
-        code,
-        fields,
-        targets,
-        kinds,
-        makers,
-        e,
-        slot,
-        emission::target_of(slot, i.imm),
-    )
+    emit_local_call(code, at, jumps, slot, emission::target_of(slot, i.imm))
 }

@@ -2,6 +2,7 @@
 use mathlib.Core.Path.{◌≡◌, refl, ap, ◌∙◌}
 use Prim.Native.Nat.{ℕ}
 use native.Mathlib.Omega.{arith}
+use Rattle.std.specs.Prelude.{Ok, Err}
 use lib.ListN.{length, take}
 use Rattle.base.specs.Lists.{over}
 use Rattle.code.specs.Code.{size}
@@ -13,23 +14,20 @@ use Rattle.jit.specs.Translation.{Inputs, translation_of}
 use Rattle.jit.specs.JumpTables.{page_for, kinds_in, makers_in}
 use Rattle.jit_safety.specs.Demand3.{Given}
 use Rattle.jit_translate.specs.Translated.{code_in, locations_in, fields_in, targets_in}
-use Rattle.jit_translate.specs.declared.translate.Answer.TheVariants as translate
-use Rattle.jit_mapping.specs.declared.Answer.{Answer}
-use Rattle.jit_mapping.specs.declared.Answer.TheVariants.{Accepted, Refused}
 use Rattle.jit_mapping.specs.declared.Refusal.{Refusal}
-use Rattle.jit_mapping.specs.Mapped.{Map, no, yes, map_of, answer_of, written, text_in, Buffers, Mapped}
+use Rattle.jit_mapping.specs.Mapped.{Map, no, yes, map_of, Answer, answer_of, written, text_in, Buffers, Mapped}
 use Rattle.jit_mapping.proofs.MappedLaws.{same, one_answer, mapping}
 use Rattle.jit_theorem.specs.Theorem.{Promise}
 use Rattle.jit_theorem.specs.MapTheorem.{page_in, MapPromise, MapTheorem}
 use Rattle.jit_theorem.proofs.Proved as page
 
-refusal-of : (x : Inputs) (base : ℕ) (before after : Buffers) (q : Refusal) → Mapped x base before after (Refused q)
+refusal-of : (x : Inputs) (base : ℕ) (before after : Buffers) (q : Refusal) → Mapped x base before after (Err q)
     → (map_of x base (length before.text) ≡ no q) × (after ≡ before)
 refusal-of x base before after q h = by (map_of x base (length before.text)) refl
   where
     by : (w : Map) → map_of x base (length before.text) ≡ w → (map_of x base (length before.text) ≡ no q) × (after ≡ before)
     by (no r) e =
-        let f : Refused q ≡ Refused r = h.answer ∙ ap (λ (w : Map). answer_of w (translation_of x)) e in
+        let f : Err q ≡ Err r = h.answer ∙ ap (λ (w : Map). answer_of w (translation_of x)) e in
         let g : q ≡ r = cc in (
           rw g e,
           same after before
@@ -42,13 +40,13 @@ refusal-of x base before after q h = by (map_of x base (length before.text)) ref
               (rw e at h.text),
         )
     by (yes text) e =
-        let f : Refused q ≡ answer_of (yes text) (translation_of x) = h.answer ∙ ap (λ (w : Map). answer_of w (translation_of x)) e in
+        let f : Err q ≡ answer_of (yes text) (translation_of x) = h.answer ∙ ap (λ (w : Map). answer_of w (translation_of x)) e in
         let z : ◌≡◌ {A = ℕ} 0 1 = cc in
         absurd (omega arith)
 
-module _ (x : Inputs) (given : Given x) (base : ℕ) (before after : Buffers) {L J T : ℕ} (h : Mapped x base before after (Accepted L J T)) where
-  page-of : Promise x (page_in before) (page_in after) (translate.Accepted L J)
-  page-of = page.kept x given (page_in before) (page_in after) (translate.Accepted L J) (mapping h).page (mapping h).names
+module _ (x : Inputs) (given : Given x) (base : ℕ) (before after : Buffers) {L J T : ℕ} (h : Mapped x base before after (Ok (record { length = L; jumps = J; text = T }))) where
+  page-of : Promise x (page_in before) (page_in after) (Ok (record { length = L; jumps = J }))
+  page-of = page.kept x given (page_in before) (page_in after) (Ok (record { length = L; jumps = J })) (mapping h).page (mapping h).names
 
   map_of_lem : (L ≡ size isa (whole (page_for x))) × ReadBack isa base (page_for x) (take T after.text)
   map_of_lem = ((mapping h).length_is, rw (mapping h).text (read_back isa base (page_for x) (mapping h).low))

@@ -3,10 +3,10 @@ use mathlib.Core.Path.{◌≡◌, refl, sym, ◌∙◌}
 use mathlib.Core.List.{List}
 use Prim.Native.Nat.{ℕ, ◌+◌}
 use native.Mathlib.Omega.{arith}
+use Rattle.std.specs.Prelude.{Ok, Err}
 use lib.ListN.{length, take}
 use Rattle.base.specs.Lists.{over}
 use Rattle.x86.proofs.FillLaws.{take-over}
-use Rattle.jit.specs.declared.Refusal.{Refusal}
 use Rattle.jit.specs.Translation.{Inputs, slots_of, Outcome, no, yes, translation_of}
 use Rattle.x86.specs.Encode.{isa}
 use Rattle.jit.specs.JumpTables.{page_for, kind_table, maker_table, kinds_in, makers_in}
@@ -18,10 +18,8 @@ use Rattle.jit_safety.proofs.Proved.{demand3}
 use Rattle.jit_safety.proofs.Useless.{division-raises}
 use Rattle.jit_agrees.specs.Agrees.{Agrees}
 use Rattle.jit_agrees.proofs.Proved.{agrees, follows-all}
-use Rattle.jit_translate.specs.Translated.{Translated, answer_of, code_in, locations_in, fields_in, targets_in}
-use Rattle.jit_translate.proofs.TranslatedLaws.{one_answer}
-use Rattle.jit_translate.specs.declared.translate.Answer.{Answer}
-use Rattle.jit_translate.specs.declared.translate.Answer.TheVariants.{Accepted, Refused}
+use Rattle.jit_translate.specs.Translated.{Answer, Translated, answer_of, code_in, locations_in, fields_in, targets_in}
+use Rattle.jit_translate.proofs.TranslatedLaws.{one_answer, same-numbers}
 use Rattle.jit_theorem.specs.Theorem.{Buffers, Translates, Names, RefusalChangesNothing, PageIsSafe, PageAgrees, Promise, Theorem}
 
 same : (a b : Buffers) → a.code ≡ b.code → a.locations ≡ b.locations → a.fields ≡ b.fields → a.targets ≡ b.targets
@@ -39,7 +37,7 @@ refusal-of x before after r h n q e = by (translation_of x) (rw e at h) n.kinds 
   where
     by : (o : Outcome)
         → Translated o before.code after.code before.locations after.locations
-        before.fields after.fields before.targets after.targets (Refused q)
+        before.fields after.fields before.targets after.targets (Err q)
         → after.kinds ≡ over (kinds_in x o) before.kinds → after.makers ≡ over (makers_in x o) before.makers
         → (o ≡ no q) × (after ≡ before)
     by (no p) g k m = let a = g.answer in (cc, same after before g.code g.locations g.fields g.targets k m)
@@ -47,16 +45,15 @@ refusal-of x before after r h n q e = by (translation_of x) (rw e at h) n.kinds 
 
 -- 3
 module _ (x : Inputs) (given : Given x) (k₀ m₀ : List ℕ) {c₀ c₁ l₀ l₁ f₀ f₁ t₀ t₁ k₁ m₁ : List ℕ} {L J : ℕ} where
-  of-outcome : (o : Outcome) → translation_of x ≡ o → Translated o c₀ c₁ l₀ l₁ f₀ f₁ t₀ t₁ (Accepted L J)
+  of-outcome : (o : Outcome) → translation_of x ≡ o → Translated o c₀ c₁ l₀ l₁ f₀ f₁ t₀ t₁ (Ok (record { length = L; jumps = J }))
       → k₁ ≡ over (kinds_in x o) k₀ → m₁ ≡ over (makers_in x o) m₀
       → Demand3 x (take L c₁) (take (slots_of x.filter.program + 1) l₁) (take J f₁) (take J t₁) (take J k₁) (take J m₁)
   of-outcome (no r) e h k m = let a = h.answer in let z : ◌≡◌ {A = ℕ} 0 1 = cc in absurd (omega arith)
   of-outcome (yes code locs fields targets) e h k m =
       let p = parts x given code locs fields targets e in
       let d = demand3 x given code locs fields targets e in
-      let a = h.answer in
-      let s : length code ≡ L = cc in
-      let j : length fields ≡ J = cc in
+      let s : length code ≡ L = sym (same-numbers h.answer).0 in
+      let j : length fields ≡ J = sym (same-numbers h.answer).1 in
       let n : length locs ≡ slots_of x.filter.program + 1 = rw p.is-locs p.few in
       let same = d.landing.pairs in
       rw (
@@ -88,13 +85,12 @@ agrees-of x given before after r h L J accepts std = by (translation_of x) refl 
 
     by : (o : Outcome) → translation_of x ≡ o
         → Translated o before.code after.code before.locations after.locations
-        before.fields after.fields before.targets after.targets (Accepted L J)
+        before.fields after.fields before.targets after.targets (Ok (record { length = L; jumps = J }))
         → Agrees x.filter.program (take L after.code) (take n after.locations)
     by (no q) e g = let a = g.answer in let z : ◌≡◌ {A = ℕ} 0 1 = cc in absurd (omega arith)
     by (yes code locs fields targets) e g =
         let p = parts x given code locs fields targets e in
-        let a = g.answer in
-        let s : length code ≡ L = cc in
+        let s : length code ≡ L = sym (same-numbers g.answer).0 in
         let all : length locs ≡ n = rw p.is-locs p.few in
         rw (g.code, g.locations, take-over code before.code L s, take-over locs before.locations n all)
         (agrees x given code locs fields targets e std)

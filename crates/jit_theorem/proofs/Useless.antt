@@ -4,6 +4,7 @@ use mathlib.Core.Logic.{◌≢◌}
 use mathlib.Core.List.{List}
 use mathlib.Core.Bool.{true}
 use Prim.Native.Nat.{ℕ}
+use Rattle.std.specs.Prelude.{Ok, Err}
 use lib.ListN.{take}
 use Rattle.x86.specs.Decode.{read_all, all}
 use Rattle.x86_machine.specs.Machine.{State, Input, divided, run}
@@ -13,25 +14,23 @@ use Rattle.base.specs.Lists.{over}
 use Rattle.jit.specs.JumpTables.{kinds_in, makers_in}
 use Rattle.jit_safety.specs.Demand3.{Given, instructions_of, Begins}
 use Rattle.jit_agrees.specs.Agrees.{Agrees}
-use Rattle.jit_translate.specs.Translated.{answer_of}
-use Rattle.jit_translate.specs.declared.translate.Answer.{Answer}
-use Rattle.jit_translate.specs.declared.translate.Answer.TheVariants.{Accepted, Refused}
+use Rattle.jit_translate.specs.Translated.{Answer, answer_of}
 use Rattle.jit_theorem.specs.Theorem.{Buffers, locations_of, Promise}
 use Rattle.jit_theorem.proofs.Proved.{theorem}
 
 module _ {x : Inputs} {before after : Buffers} where
   -- demand 1: a refusal that is not the definition's; one that leaves something changed
-  pub refusal-made-up : {q : Refusal} → translation_of x ≢ no q → Promise x before after (Refused q) → ⊥
+  pub refusal-made-up : {q : Refusal} → translation_of x ≢ no q → Promise x before after (Err q) → ⊥
   refusal-made-up n p = n (p.refusal _ refl).0
 
-  pub refusal-changes : {q : Refusal} → after ≢ before → Promise x before after (Refused q) → ⊥
+  pub refusal-changes : {q : Refusal} → after ≢ before → Promise x before after (Err q) → ⊥
   refusal-changes n p = n (p.refusal _ refl).1
 
   -- .. such as a kind that is left behind, or a maker
-  pub kind-left-behind : {q : Refusal} → after.kinds ≢ before.kinds → Promise x before after (Refused q) → ⊥
+  pub kind-left-behind : {q : Refusal} → after.kinds ≢ before.kinds → Promise x before after (Err q) → ⊥
   kind-left-behind n p = n (ap (λ (b : Buffers). b.kinds) (p.refusal _ refl).1)
 
-  pub maker-left-behind : {q : Refusal} → after.makers ≢ before.makers → Promise x before after (Refused q) → ⊥
+  pub maker-left-behind : {q : Refusal} → after.makers ≢ before.makers → Promise x before after (Err q) → ⊥
   maker-left-behind n p = n (ap (λ (b : Buffers). b.makers) (p.refusal _ refl).1)
 
   -- demand 2: another answer than the definition's
@@ -46,17 +45,17 @@ module _ {x : Inputs} {before after : Buffers} where
   makers-otherwise n p = n p.names.makers
 
   -- demand 3: a page that is read as other instructions; one that divides by zero
-  pub read-otherwise : {L J : ℕ} → read_all (take L after.code) ≢ all (instructions_of x) → Promise x before after (Accepted L J) → ⊥
+  pub read-otherwise : {L J : ℕ} → read_all (take L after.code) ≢ all (instructions_of x) → Promise x before after (Ok (record { length = L; jumps = J })) → ⊥
   read-otherwise n p = n (p.safe _ _ refl).reading.read
 
   pub raises : {L J : ℕ} (us : List Input) (s : State) → Begins s → run (take L after.code) us s ≡ divided
-      → Promise x before after (Accepted L J) → ⊥
+      → Promise x before after (Ok (record { length = L; jumps = J })) → ⊥
   raises us s b e p = p.division _ _ refl us s b e
 
   -- in standard mode: a page on which a slot's code does something else
   pub does-otherwise : {L J : ℕ} → x.filter.mode.standard ≡ true
       → (Agrees x.filter.program (take L after.code) (locations_of x after) → ⊥)
-      → Promise x before after (Accepted L J) → ⊥
+      → Promise x before after (Ok (record { length = L; jumps = J })) → ⊥
   does-otherwise std n p = n (p.agrees _ _ refl std)
 
 -- the theorem: something that has no answer; two answers to one question; the same answer with other buffers

@@ -1,5 +1,5 @@
 -- What is lent, at one moment, of the parameters by their names (base/specs/Lent.antt).
-use Rattle.base.specs.Lent.{MutSlice, Lent}
+use Rattle.base.specs.Lent.{MutSlice}
 use Rattle.jit_theorem.specs.Theorem.{Buffers}
 
 abbrev pub buffers : (code locations fields targets kinds makers : MutSlice) → Buffers

@@ -8,7 +8,7 @@
 --   ReadBack  what is read there: the page's pieces, end to end, each under its name                crates/map/specs/ReadBack.antt
 --
 -- `MapPromise` says it of one call; `MapTheorem` says that every call keeps it, that it can always be kept, and in one way only.
-use Rattle.std.specs.Prelude.{◌≡◌, ℕ, length, take}
+use Rattle.std.specs.Prelude.{◌≡◌, ℕ, length, take, Ok, Err}
 use Rattle.code.specs.Code.{size}
 use Rattle.code.specs.Page.{whole}
 use Rattle.map.specs.ReadBack.{ReadBack}
@@ -16,11 +16,8 @@ use Rattle.x86.specs.Encode.{isa}
 use Rattle.jit.specs.Translation.{Inputs}
 use Rattle.jit.specs.JumpTables.{page_for}
 use Rattle.jit_safety.specs.Demand3.{Given}
-use Rattle.jit_translate.specs.declared.translate.Answer.TheVariants as translate
-use Rattle.jit_mapping.specs.declared.Answer.{Answer}
-use Rattle.jit_mapping.specs.declared.Answer.TheVariants.{Accepted, Refused}
 use Rattle.jit_mapping.specs.declared.Refusal.{Refusal}
-use Rattle.jit_mapping.specs.Mapped.{no, map_of, Buffers, Mapped}
+use Rattle.jit_mapping.specs.Mapped.{no, map_of, Answer, Buffers, Mapped}
 use Rattle.jit_theorem.specs.Theorem as Theorem
 use Rattle.jit_theorem.specs.Theorem.{Promise}
 
@@ -40,11 +37,13 @@ pub record MapPromise (x : Inputs) (base : ℕ) (before after : Buffers) (r : An
   -- the answer, the page, the tables and the text are `map_of`'s; this is `translate_mapped`'s own contract
   pub bytes : Mapped x base before after r
   -- refused, nothing that was lent is changed
-  pub refusal : (q : Refusal) → r ≡ Refused q → (map_of x base (length before.text) ≡ no q) × (after ≡ before)
+  pub refusal : (q : Refusal) → r ≡ Err q → (map_of x base (length before.text) ≡ no q) × (after ≡ before)
   -- accepted, the page is what `translate` promises it to be
-  pub page : (L J T : ℕ) → r ≡ Accepted L J T → Promise x (page_in before) (page_in after) (translate.Accepted L J)
+  pub page : (L J T : ℕ) → r ≡ Ok (record { length = L; jumps = J; text = T })
+      → Promise x (page_in before) (page_in after) (Ok (record { length = L; jumps = J }))
   -- .. and the text's T bytes, read as perf reads them, name the page's L bytes from the base on, each by the piece that it is of
-  pub map : (L J T : ℕ) → r ≡ Accepted L J T → (L ≡ size isa (whole (page_for x))) × ReadBack isa base (page_for x) (take T after.text)
+  pub map : (L J T : ℕ) → r ≡ Ok (record { length = L; jumps = J; text = T })
+      → (L ≡ size isa (whole (page_for x))) × ReadBack isa base (page_for x) (take T after.text)
 
 -- `Given`, as in Theorem.antt, is what Rattle says of every slice.
 pub record MapTheorem : Type 0 where

@@ -17,7 +17,7 @@
 -- can always be kept, in one way only.
 -- proofs/Proved.antt proves `Theorem`; `ndakoleem_translate_4`, which a loader calls, has `Promise` in its contract and asks nothing.
 -- That `translate` ends, and touches only what it was lent, Rattle proves of every function.
-use Rattle.std.specs.Prelude.{◌≡◌, true, List, ℕ, ◌+◌, take}
+use Rattle.std.specs.Prelude.{◌≡◌, true, List, ℕ, ◌+◌, take, Ok, Err}
 use Rattle.jit.specs.declared.Refusal.{Refusal}
 use Rattle.jit.specs.Translation.{Inputs, slots_of, no, translation_of}
 use Rattle.jit.specs.Modes.{Modes}
@@ -26,9 +26,7 @@ use Rattle.x86_machine.specs.Machine.{State, Input, divided, run}
 use Rattle.jit_safety.specs.Demand3.{Given, Begins, Demand3}
 use Rattle.jit_agrees.specs.Agrees.{Agrees}
 use Rattle.jit_agrees.specs.Follows.{FollowsAll}
-use Rattle.jit_translate.specs.Translated.{Translated, Named}
-use Rattle.jit_translate.specs.declared.translate.Answer.{Answer}
-use Rattle.jit_translate.specs.declared.translate.Answer.TheVariants.{Accepted, Refused}
+use Rattle.jit_translate.specs.Translated.{Answer, Translated, Named}
 
 -- What is lent, at one moment: the code buffer and the five tables.
 pub record Buffers : Type 0 where
@@ -46,7 +44,7 @@ locations_of x b = take (slots_of x.filter.program + 1) b.locations
 -- DEMAND 1. Whatever is asked has an answer, one only: finished code, or one refusal, and then nothing that was lent is changed.
 -- (That there is one, and one only, is `answered` and `only` below.)
 abbrev pub RefusalChangesNothing : Inputs → (before after : Buffers) → Answer → Type 0
-RefusalChangesNothing x before after r = (q : Refusal) → r ≡ Refused q → (translation_of x ≡ no q) × (after ≡ before)
+RefusalChangesNothing x before after r = (q : Refusal) → r ≡ Err q → (translation_of x ≡ no q) × (after ≡ before)
 
 -- DEMAND 2. The answer, the bytes and the tables are `translation_of`'s, at the head of what was lent; behind them all is as it was. This,
 -- with `Names`, is `translate`'s own contract.
@@ -70,20 +68,23 @@ Names x before after = Named x before.kinds after.kinds before.makers after.make
 -- the stack pointer is promised in runs that come to the epilogue by the prologue's jump alone.
 abbrev pub PageIsSafe : Inputs → (after : Buffers) → Answer → Type 0
 PageIsSafe x after r =
-    (L J : ℕ) → r ≡ Accepted L J
+    (L J : ℕ) → r ≡ Ok (record { length = L; jumps = J })
     → Demand3 x (take L after.code) (locations_of x after) (take J after.fields) (take J after.targets) (take J after.kinds)
     (take J after.makers)
 
 -- .. of which one thing by itself: no run of an accepted page raises #DE.
 abbrev pub NoDivisionFaults : (after : Buffers) → Answer → Type 0
-NoDivisionFaults after r = (L J : ℕ) → r ≡ Accepted L J → (us : List Input) (s : State) → Begins s → run (take L after.code) us s ≡ divided → ⊥
+NoDivisionFaults after r =
+    (L J : ℕ) → r ≡ Ok (record { length = L; jumps = J }) → (us : List Input) (s : State) → Begins s
+    → run (take L after.code) us s ≡ divided → ⊥
 
 -- THE CODE DOES WHAT THE SLOT SAYS. In standard mode, compact or not, every slot of arithmetic, a move, a byte swap, JA or a conditional jump
 -- leaves what RFC 9669's step leaves, and goes where it goes, if that slot has a location: of those L bytes, from the slot's location in
 -- those n + 1 entries on.
 abbrev pub PageAgrees : Inputs → (after : Buffers) → Answer → Type 0
 PageAgrees x after r =
-    (L J : ℕ) → r ≡ Accepted L J → x.filter.mode.standard ≡ true → Agrees x.filter.program (take L after.code) (locations_of x after)
+    (L J : ℕ) → r ≡ Ok (record { length = L; jumps = J }) → x.filter.mode.standard ≡ true
+    → Agrees x.filter.program (take L after.code) (locations_of x after)
 
 pub record Promise (x : Inputs) (before after : Buffers) (r : Answer) : Type 0 where
   pub refusal : RefusalChangesNothing x before after r

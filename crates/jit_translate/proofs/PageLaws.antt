@@ -1,8 +1,9 @@
 -- What `write_page` may count on at each of its calls, and what it comes to, where `Decided` is good.
-use mathlib.Core.Path.{◌≡◌, refl}
+use mathlib.Core.Path.{◌≡◌, refl, ap}
 use mathlib.Core.List.{List}
 use Prim.Native.Nat.{ℕ, ◌+◌, ◌≤◌, ◌<◌, ◌^◌}
 use native.Mathlib.Omega.{arith}
+use Rattle.std.specs.Prelude.{Ok}
 use lib.ListN.{length}
 use Rattle.x86.specs.Code.{size}
 use Rattle.jit.specs.Frame.{prologue}
@@ -12,10 +13,10 @@ use Rattle.jit.specs.Translation.{Inputs, slots_of, Walk, walk_of, translation_o
 use Rattle.jit.specs.Passes.{walk_from}
 use Rattle.jit.proofs.Counted.{all_slots}
 use Rattle.jit_walk.specs.Acceptable.{Acceptable}
-use Rattle.jit_walk.specs.declared.verdict.Verdict.TheVariants.{Good}
+use Rattle.jit.proofs.FrameLaws.{prologue-targets}
 use Rattle.jit_recording.specs.Emits.{Tables, Emits, HasEntry, Room}
+use Rattle.jit_recording.proofs.EmitsLaws.{put-length}
 use Rattle.jit_writing.specs.Writes.{Fits, Fitting, Writes}
-use Rattle.jit_translate.specs.declared.translate.Answer.TheVariants.{Accepted}
 use Rattle.jit_translate.specs.Translated.{Translated, Named, Decided}
 use Rattle.jit_translate.specs.Halves.{Begun, Closing, Ended}
 use Rattle.jit_translate.proofs.TranslatedLaws as laws
@@ -31,7 +32,7 @@ pub record Lengths (x : Inputs) (t : Tables) : Type 0 where
   pub kinds : x.kinds ≡ length t.kinds
   pub makers : x.makers ≡ length t.makers
 
-module _ {x : Inputs} (good : Decided x Good) where
+module _ {x : Inputs} (good : Decided x (Ok tt)) where
   is : Ready x
   is = ready good
 
@@ -62,15 +63,24 @@ module _ {x : Inputs} (good : Decided x Good) where
         × ((x.page ≤ longest_page) × ((start ≤ x.page) × (length x.filter.ids ≡ length x.filter.addresses)))
     slots-bounded = (is.program, (is.longest, (omega (arith, starts, is.walk.room), is.helpers)))
 
-    pub slots-fitting : {l : List ℕ} → x.page ≡ length c₁ → x.locations ≡ length l → Lengths x t₁
-        → Fitting (walk_from x.filter x.page start) x.page start c₁ l t₁ (slots_of x.filter.program)
+    -- the tables are as long as before, and list one jump
+    pub slots-fitting : {l : List ℕ} → x.page ≡ length c₁ → x.locations ≡ length l → Lengths x t
+        → Fitting (walk_from x.filter x.page start) x.page start c₁ l t₁ j (slots_of x.filter.program)
     slots-fitting p hl h =
+        let same : Lengths x t₁ =
+        record {
+          fields = omega (arith, h.fields, put-length e.fields);
+          targets = omega (arith, h.targets, put-length e.targets);
+          kinds = omega (arith, h.kinds, put-length e.kinds);
+          makers = omega (arith, h.makers, put-length e.makers);
+        } in
         rw starts
         (record {
           fits = fits is.walk;
           page_is = p;
           locations = omega (arith, is.tables.first, hl);
-          entry = entry_at (slots_of x.filter.program) (omega arith) h;
+          entry = entry_at (slots_of x.filter.program) (omega arith) same;
+          one = omega (arith, e.targets.next, ap length (prologue-targets x.flags));
         })
 
     pub begun : {c₂ l l₁ : List ℕ} {t₂ : Tables} {end jumps : ℕ} → Writes (walk_from x.filter x.page start) start c₁ c₂ l l₁ t₁ t₂ end jumps
@@ -93,27 +103,28 @@ module _ {x : Inputs} (good : Decided x Good) where
     pub short : end + epilogue_size ≤ longest_page
     short = omega (arith, ends, is.longest)
 
-    pub closing : length c₁ ≡ length c → length l₁ ≡ length l → length t₁.fields ≡ length t.fields → length t₁.targets ≡ length t.targets
-        → Closing (slots_of x.filter.program) end jumps c₁ l₁ t₁.fields t₁.targets
-    closing hc hl hf ht =
+    pub closing : length c₁ ≡ length c → length l₁ ≡ length l → Closing (slots_of x.filter.program) end jumps c₁ l₁ t₁.fields t₁.targets
+    closing hc hl =
         record {
           exit = omega (arith, ends, page, hc);
           page = omega (arith, is.longest, page, hc);
           location = omega (arith, is.tables.first, locations, hl);
-          fields = omega (arith, listed, hf);
-          targets = omega (arith, few, is.tables.third, tables.targets, ht);
+          fields = omega (arith, listed, laws.fields-same is.walk (all_slots x) b);
+          targets = omega (arith, few, is.tables.third, tables.targets, laws.targets-same is.walk (all_slots x) b);
           inside = λ k h. omega (arith, laws.inside is.walk (all_slots x) b listed k h, page, hc);
         }
 
-    pub written : {c₂ l₂ : List ℕ} → length c₁ ≡ length c → Ended (slots_of x.filter.program) end jumps c₁ c₂ l₁ l₂ t₁.fields t₁.targets
-        → Translated (translation_of x) c c₂ l l₂ t.fields t₁.fields t.targets t₁.targets (Accepted (end + epilogue_size) jumps)
-    written hc z =
-        rw is.settles
+    -- what the lenders of the tables are left with is what the tables hold
+    pub written : {c₂ l₂ f₂ g₂ : List ℕ} → f₂ ≡ t₁.fields → g₂ ≡ t₁.targets
+        → length c₁ ≡ length c → Ended (slots_of x.filter.program) end jumps c₁ c₂ l₁ l₂ t₁.fields t₁.targets
+        → Translated (translation_of x) c c₂ l l₂ t.fields f₂ t.targets g₂ (Ok (record { length = end + epilogue_size; jumps = jumps }))
+    written pf pt hc z =
+        rw (is.settles, pf, pt)
         (laws.accepts is.walk (all_slots x) b is.longest page hc (omega (arith, is.tables.first, locations))
         listed (omega (arith, few, is.tables.third, tables.targets)) z)
 
-    pub named : Named x t.kinds t₁.kinds t.makers t₁.makers
-    named =
-        laws.names is.walk.walk (accepted-so good).is
+    pub named : {k₂ m₂ : List ℕ} → k₂ ≡ t₁.kinds → m₂ ≡ t₁.makers → Named x t.kinds k₂ t.makers m₂
+    named pk pm =
+        rw (pk, pm) (laws.names is.walk.walk (accepted-so good).is
         (laws.kinds-are is.walk (all_slots x) b (omega (arith, few, is.tables.fourth, tables.kinds)))
-        (laws.makers-are is.walk (all_slots x) b (omega (arith, few, is.tables.fifth, tables.makers)))
+        (laws.makers-are is.walk (all_slots x) b (omega (arith, few, is.tables.fifth, tables.makers))))

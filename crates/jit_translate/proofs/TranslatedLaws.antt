@@ -3,9 +3,10 @@ use mathlib.Core.Path.{◌≡◌, ◌∙◌, refl, ap, sym}
 use mathlib.Core.List.{List, [], ◌∷◌, ◌++◌, append_assoc, append-nil}
 use Prim.Native.Nat.{ℕ, ◌+◌, ◌<◌, ◌≤◌}
 use native.Mathlib.Omega.{arith}
+use Rattle.std.specs.Prelude.{Ok, Err}
 use native.Mathlib.Nat.{zero-add}
 use lib.ListN.{length, length-append, take, drop, get_or, set, get_or-append}
-use lib.Seq.{sets, sets-eq}
+use lib.Seq.{sets, sets-eq, length-sets}
 use borrow.Author.Tests.{le-leb}
 use Rattle.jit.specs.declared.Flags.{Flags}
 use Rattle.jit.specs.declared.Refusal.{Refusal}
@@ -34,11 +35,10 @@ use Rattle.jit_walk.specs.Acceptable.{Acceptable}
 use Rattle.base.proofs.Lists.{empty, sets-append}
 use Rattle.jit_recording.specs.Emits.{Tables, Emits}
 use Rattle.jit_writing.specs.Writes.{Holds, Writes}
-use Rattle.jit_translate.specs.declared.translate.Answer.{Answer}
-use Rattle.jit_translate.specs.declared.translate.Answer.TheVariants.{Accepted, Refused}
 use Rattle.jit.specs.Limits.{longest_page}
 use Rattle.jit.specs.Room.{epilogue_size}
-use Rattle.jit_translate.specs.Translated.{Translated, Named}
+use Rattle.jit_translate.specs.declared.translate.Accepted.{Accepted}
+use Rattle.jit_translate.specs.Translated.{Answer, Translated, Named}
 use Rattle.jit_translate.specs.Halves.{Head, BegunAs, Begun, Ended}
 
 -- It admits one answer only: the outcome and the contents at entry settle the answer and the contents at exit.
@@ -48,8 +48,12 @@ pub one_answer : {o : Outcome} {c₀ c₁ c₂ l₀ l₁ l₂ f₀ f₁ f₂ t�
 one_answer a b =
     (a.answer ∙ sym b.answer, a.code ∙ sym b.code, a.locations ∙ sym b.locations, a.fields ∙ sym b.fields, a.targets ∙ sym b.targets)
 
+-- The same acceptance has the same two numbers.
+pub same-numbers : {a b : Accepted} → ◌≡◌ {A = Answer} (Ok a) (Ok b) → (a.length ≡ b.length) × (a.jumps ≡ b.jumps)
+same-numbers {a} {b} e = let s : a ≡ b = cc in (ap (λ (x : Accepted). x.length) s, ap (λ (x : Accepted). x.jumps) s)
+
 -- A refusal leaves all as it was.
-pub refuses : {o : Outcome} {c l f t : List ℕ} {r : Refusal} → o ≡ no r → Translated o c c l l f f t t (Refused r)
+pub refuses : {o : Outcome} {c l f t : List ℕ} {r : Refusal} → o ≡ no r → Translated o c c l l f f t t (Err r)
 refuses e = rw e (record { answer = refl; code = refl; locations = refl; fields = refl; targets = refl })
 
 -- The prologue is written, then the slots.
@@ -142,6 +146,13 @@ module _ {g : Flags} {n page : ℕ} {w : Walk} (a : Acceptable n page (size (pro
   head : Head a.bs g n c c₁ l l₁ t t₁ e j
   head = rw a.walk at x.state
 
+  -- the tables are as long as they were
+  pub fields-same : length t₁.fields ≡ length t.fields
+  fields-same = ap length head.fields ∙ length-sets t.fields 0 (fields_of 0 (prologue g ++ flat a.bs))
+
+  pub targets-same : length t₁.targets ≡ length t.targets
+  targets-same = ap length head.targets ∙ length-sets t.targets 0 (targets_of (prologue g ++ flat a.bs))
+
   slots : slots_in a.bs ≡ n
   slots = all a.bs a.walk
 
@@ -169,7 +180,7 @@ module _ {g : Flags} {n page : ℕ} {w : Walk} (a : Acceptable n page (size (pro
   -- What is written and filled is what the definition says.
   pub accepts : {c₂ l₂ : List ℕ} → page ≤ longest_page → page ≡ length c → length c₁ ≡ length c → n < length l → j ≤ length t.fields
       → j ≤ length t.targets → Ended n e j c₁ c₂ l₁ l₂ t₁.fields t₁.targets
-      → Translated (finish g n page w) c c₂ l l₂ t.fields t₁.fields t.targets t₁.targets (Accepted (e + epilogue_size) j)
+      → Translated (finish g n page w) c c₂ l l₂ t.fields t₁.fields t.targets t₁.targets (Ok (record { length = e + epilogue_size; jumps = j }))
   accepts {c₂} {l₂} k m m₁ hl hf ht z =
       let bs = a.bs in
       let loc = place_of (locations g bs) (exit_of g bs) in

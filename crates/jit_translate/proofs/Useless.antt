@@ -6,48 +6,47 @@ use mathlib.Core.Logic.{◌≢◌}
 use mathlib.Core.List.{List}
 use Prim.Native.Nat.{ℕ, ◌+◌}
 use native.Mathlib.Omega.{arith}
+use Rattle.std.specs.Prelude.{Ok, Err}
 use lib.ListN.{length, take, drop, get_or}
 use lib.Seq.{get_or-append-add, get_or-drop}
 use Rattle.jit.specs.declared.Refusal.{Refusal}
 use Rattle.base.specs.Lists.{over}
 use Rattle.x86.proofs.FillLaws.{take-over}
 use Rattle.jit.specs.Translation.{Inputs, Outcome, no, yes, translation_of}
-use Rattle.jit_walk.specs.declared.verdict.Verdict.TheVariants.{Good, Not}
-use Rattle.jit_translate.specs.Translated.{code_in, locations_in, fields_in, targets_in, Translated, Decided}
-use Rattle.jit_translate.specs.declared.translate.Answer.{Answer}
-use Rattle.jit_translate.specs.declared.translate.Answer.TheVariants.{Accepted, Refused}
+use Rattle.jit_translate.proofs.TranslatedLaws.{same-numbers}
+use Rattle.jit_translate.specs.Translated.{Answer, code_in, locations_in, fields_in, targets_in, Translated, Decided}
 
 -- a `decide` that says good of what is refused, that refuses what is accepted, or refuses for another reason or another slot
 module _ {x : Inputs} where
-  pub good-of-refused : {q : Refusal} → translation_of x ≡ no q → Decided x Good → ⊥
+  pub good-of-refused : {q : Refusal} → translation_of x ≡ no q → Decided x (Ok tt) → ⊥
   good-of-refused e d = let v = rw e at d.verdict in let z : ◌≡◌ {A = ℕ} 0 1 = cc in omega arith
 
-  pub not-of-accepted : {c l f t : List ℕ} {r : Refusal} → translation_of x ≡ yes c l f t → Decided x (Not r) → ⊥
+  pub not-of-accepted : {c l f t : List ℕ} {r : Refusal} → translation_of x ≡ yes c l f t → Decided x (Err r) → ⊥
   not-of-accepted e d = let v = rw e at d.verdict in let z : ◌≡◌ {A = ℕ} 0 1 = cc in omega arith
 
-  pub not-of-another : {q r : Refusal} → r ≢ q → translation_of x ≡ no q → Decided x (Not r) → ⊥
+  pub not-of-another : {q r : Refusal} → r ≢ q → translation_of x ≡ no q → Decided x (Err r) → ⊥
   not-of-another n e d = let v = rw e at d.verdict in n (cc)
 
 module _ {c₀ c₁ l₀ l₁ f₀ f₁ t₀ t₁ : List ℕ} where
   -- one that refuses everything: what is accepted is not refused, whatever the reason given
-  pub refuses-everything : {c l f t : List ℕ} {r : Refusal} → Translated (yes c l f t) c₀ c₁ l₀ l₁ f₀ f₁ t₀ t₁ (Refused r) → ⊥
+  pub refuses-everything : {c l f t : List ℕ} {r : Refusal} → Translated (yes c l f t) c₀ c₁ l₀ l₁ f₀ f₁ t₀ t₁ (Err r) → ⊥
   refuses-everything h = let a = h.answer in let z : ◌≡◌ {A = ℕ} 0 1 = cc in omega arith
 
   -- one that accepts everything
-  pub accepts-everything : {q : Refusal} {L J : ℕ} → Translated (no q) c₀ c₁ l₀ l₁ f₀ f₁ t₀ t₁ (Accepted L J) → ⊥
+  pub accepts-everything : {q : Refusal} {L J : ℕ} → Translated (no q) c₀ c₁ l₀ l₁ f₀ f₁ t₀ t₁ (Ok (record { length = L; jumps = J })) → ⊥
   accepts-everything h = let a = h.answer in let z : ◌≡◌ {A = ℕ} 0 1 = cc in omega arith
 
   -- another refusal, or the same of another slot
-  pub another-refusal : {q r : Refusal} → r ≢ q → Translated (no q) c₀ c₁ l₀ l₁ f₀ f₁ t₀ t₁ (Refused r) → ⊥
+  pub another-refusal : {q r : Refusal} → r ≢ q → Translated (no q) c₀ c₁ l₀ l₁ f₀ f₁ t₀ t₁ (Err r) → ⊥
   another-refusal n h = let a = h.answer in n (cc)
 
   -- a made-up length, a made-up count of jumps
-  module _ {c l f t : List ℕ} {L J : ℕ} (h : Translated (yes c l f t) c₀ c₁ l₀ l₁ f₀ f₁ t₀ t₁ (Accepted L J)) where
+  module _ {c l f t : List ℕ} {L J : ℕ} (h : Translated (yes c l f t) c₀ c₁ l₀ l₁ f₀ f₁ t₀ t₁ (Ok (record { length = L; jumps = J }))) where
     pub length-made-up : L ≢ length c → ⊥
-    length-made-up n = let a = h.answer in n (cc)
+    length-made-up n = n (same-numbers h.answer).0
 
     pub jumps-made-up : J ≢ length f → ⊥
-    jumps-made-up n = let a = h.answer in n (cc)
+    jumps-made-up n = n (same-numbers h.answer).1
 
 -- What is lent and left as it was held the outcome already: so a translator that answers success and writes nothing is shut out wherever
 -- the page, or a table, did not hold it by chance.

@@ -10,7 +10,7 @@ use Rattle.x86_emit.specs.Wrote.{Wrote}
 use Rattle.jit.specs.Limits.{longest_page}
 use Rattle.jit.specs.Room.{epilogue_size}
 use Rattle.jit.specs.Frame.{prologue, epilogue}
-use Rattle.jit.specs.Translation.{Block, Walk, refused, done, flat, locations, place_of, slots_in}
+use Rattle.jit.specs.Translation.{Block, Walk, refused, done, flat, place_of, slots_in}
 use Rattle.jit.specs.JumpTables.{made_from}
 use Rattle.jit.specs.Passes.{starts}
 use Rattle.jit_recording.specs.Emits.{Tables}

@@ -5,8 +5,8 @@ use Rattle.jit.specs.declared.Flags.{Flags}
 use Rattle.jit.specs.declared.Mode.{Mode}
 use Rattle.jit.specs.Translation.{Filter, Inputs, translation_of}
 use Rattle.jit.specs.Lent.{filter_in}
-use Rattle.jit_translate.specs.declared.translate.Answer.{Answer}
 use Rattle.jit_translate.specs.Translated as T
+use Rattle.jit_translate.specs.Translated.{Answer}
 
 -- what is asked of buffers by their lengths; and of the lent buffers, in a `requires` and in an `ensures`
 abbrev pub sized : Filter → Flags → (page locations fields targets kinds makers : ℕ) → Inputs

@@ -1,17 +1,19 @@
 -- What the translator decides and answers, and what it leaves in what it was lent.
-use Rattle.std.specs.Prelude.{◌≡◌, List, [], ℕ, length}
+use Rattle.std.specs.Prelude.{◌≡◌, List, [], ℕ, length, Result, Ok, Err}
 use Rattle.base.specs.Lists.{over}
+use Rattle.jit.specs.declared.Refusal.{Refusal}
 use Rattle.jit.specs.Translation.{Inputs, Outcome, no, yes, translation_of}
 use Rattle.jit.specs.JumpTables.{kinds_in, makers_in}
-use Rattle.jit_walk.specs.declared.verdict.Verdict.{Verdict}
-use Rattle.jit_walk.specs.declared.verdict.Verdict.TheVariants.{Good, Not}
-use Rattle.jit_translate.specs.declared.translate.Answer.{Answer}
-use Rattle.jit_translate.specs.declared.translate.Answer.TheVariants.{Accepted, Refused}
+use Rattle.jit_translate.specs.declared.translate.Accepted.{Accepted}
+
+-- what `translate` answers
+abbrev pub Answer : Type 0
+Answer = Result Accepted Refusal
 
 -- the answer to an outcome, and what it writes at the head of the code buffer and of each table
 abbrev pub answer_of : Outcome → Answer
-answer_of (no r) = Refused r
-answer_of (yes c l f t) = Accepted (length c) (length f)
+answer_of (no r) = Err r
+answer_of (yes c l f t) = Ok (record { length = length c; jumps = length f })
 
 abbrev pub code_in : Outcome → List ℕ
 code_in (no r) = []
@@ -30,12 +32,12 @@ targets_in (no r) = []
 targets_in (yes c l f t) = t
 
 -- the verdict on an outcome
-abbrev pub verdict_in : Outcome → Verdict
-verdict_in (no r) = Not r
-verdict_in (yes c l f t) = Good
+abbrev pub verdict_in : Outcome → Result (Unit {0}) Refusal
+verdict_in (no r) = Err r
+verdict_in (yes c l f t) = Ok tt
 
 -- THE CONTRACT of `decide`, which writes nothing: the verdict on what is asked.
-pub record Decided (x : Inputs) (r : Verdict) : Type 0 where
+pub record Decided (x : Inputs) (r : Result (Unit {0}) Refusal) : Type 0 where
   pub verdict : r ≡ verdict_in (translation_of x)
 
 -- THE CONTRACT of `translate`: the answer, and the page and the tables at exit (₁) from those at entry (₀): what the outcome holds stands at

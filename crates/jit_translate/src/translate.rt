@@ -1,27 +1,25 @@
 // The one function that a user calls: every program, mode, pair of flags, helper lists and set of lent buffers gets finished code or one refusal.
 // It is `decide`, which writes nothing, and then `write_page`, which refuses nothing.
-ghost use Rattle.std.specs.Prelude.{◌≡◌, ◌≤◌};
+ghost use Rattle.std.specs.Prelude.{◌≡◌, ◌≤◌, Ok};
 ghost use Rattle.x86.specs.Code.{size};
 ghost use Rattle.jit.specs.Frame.{prologue};
 ghost use Rattle.jit.specs.Room.{longest_prologue};
 ghost use Rattle.jit.specs.Lent.{filter_of};
-ghost use Rattle.jit_walk.specs.Lent.{IsTable};
-ghost use Rattle.jit_walk.specs.declared.verdict.Verdict.TheVariants.{Good};
 ghost use Rattle.jit_translate.specs.Translated.{Decided};
 ghost use Rattle.jit_translate.specs.Lent.{sized, inputs, asked, Translated, Named};
-ghost use Rattle.jit_translate.specs.HalvesLent.{Begun, Closing, Ended};
+ghost use Rattle.jit_translate.specs.HalvesLent.{Begun, Closing, Ended, inputs_by, asked_by};
 
 use base::{Position, Slot};
-use ebpf::kind;
+use ebpf::kind::Opcodes;
 use jit::{Flags, Mode, Refusal};
 use jit_judging::{judge, sizes};
-use jit_recording::emission::Emission;
-use jit_walk::verdict::Verdict;
+use jit_recording::emission::JumpTables;
 
+// How many bytes of code there are, and entries in each jump table.
 #[derive(Clone, Copy)]
-pub enum Answer {
-    Accepted { length: usize, jumps: usize },
-    Refused(Refusal),
+pub struct Accepted {
+    pub length: usize,
+    pub jumps: usize,
 }
 
 pub fn prologue_size(flags: Flags) -> usize
@@ -38,7 +36,7 @@ pub fn prologue_size(flags: Flags) -> usize
 
 // Whether the program is translated, and if not, why: `decide` below, by the opcode table, which `translate` lays out once for both halves.
 pub fn decide_in(
-    numbers: &[u8; 256],
+    opcodes: &Opcodes,
     prog: &[u8],
     flags: Flags,
     mode: Mode,
@@ -50,11 +48,10 @@ pub fn decide_in(
     targets: usize,
     kinds: usize,
     makers: usize,
-) -> Verdict
-    requires { IsTable numbers }
+) -> Result<(), Refusal>
     ensures { Decided (sized (filter_of prog mode ids addresses) flags page locations fields targets kinds makers) result }
 {
-    match sizes::sizes(
+    let sized = sizes::sizes(
         prog.len(),
         page,
         locations,
@@ -64,15 +61,12 @@ pub fn decide_in(
         makers,
         ids,
         addresses.len(),
-    ) {
-        Verdict::Not(refusal) => Verdict::Not(refusal),
-        Verdict::Good => {
-            let start = Position {
-                offset: prologue_size(flags),
-            };
-            judge::judge(numbers, prog, mode, ids, addresses, page, start)
-        }
-    }
+    );
+    sized?;
+    let start = Position {
+        offset: prologue_size(flags),
+    };
+    judge::judge(opcodes, prog, mode, ids, addresses, page, start)
 }
 
 // The six numbers behind the helpers are the lengths of the code buffer and of the tables.
@@ -88,19 +82,19 @@ pub fn decide(
     targets: usize,
     kinds: usize,
     makers: usize,
-) -> Verdict
+) -> Result<(), Refusal>
     ensures { Decided (sized (filter_of prog mode ids addresses) flags page locations fields targets kinds makers) result }
 {
-    let numbers = kind::KINDS;
+    let opcodes = Opcodes::new();
     decide_in(
-        &numbers, prog, flags, mode, ids, addresses, page, locations, fields, targets, kinds,
+        &opcodes, prog, flags, mode, ids, addresses, page, locations, fields, targets, kinds,
         makers,
     )
 }
 
-// The prologue and the slots of a program that is accepted.
+// The prologue and the slots of a program that is accepted. The answer is where they end.
 fn write_begin(
-    numbers: &[u8; 256],
+    opcodes: &Opcodes,
     prog: &[u8],
     flags: Flags,
     mode: Mode,
@@ -108,23 +102,18 @@ fn write_begin(
     addresses: &[u64],
     code: &mut [u8],
     locations: &mut [u32],
-    fields: &mut [u32],
-    targets: &mut [u32],
-    kinds: &mut [u32],
-    makers: &mut [u32],
-) -> Emission
-    requires table { IsTable numbers }
-    requires decided { Decided (inputs prog flags mode ids addresses code locations fields targets kinds makers) Good }
-    ensures { Begun (asked prog flags mode ids addresses code locations fields targets kinds makers) code locations fields targets kinds makers result }
+    jumps: &mut JumpTables<'_>,
+) -> Position
+    requires decided { Decided (inputs_by prog flags mode ids addresses code locations jumps) (Ok tt) × (jumps.old.count ≡ 0) }
+    ensures { Begun (asked_by prog flags mode ids addresses code locations jumps) code locations jumps result }
 {
     let page = code.len();
     let n = Slot {
         number: prog.len() / 8,
     };
-    let entered = jit_writing::frame::emit_prologue(code, fields, targets, kinds, makers, flags, n);
+    let start = jit_writing::frame::emit_prologue(code, jumps, flags, n);
     jit_writing::write::write_slots(
-        numbers, prog, mode, ids, addresses, page, entered.at, code, locations, fields, targets,
-        kinds, makers,
+        opcodes, prog, mode, ids, addresses, page, start, code, locations, jumps,
     )
 }
 
@@ -149,7 +138,7 @@ fn write_end(
 
 // The page and the tables of a program that is accepted.
 pub fn write_page(
-    numbers: &[u8; 256],
+    opcodes: &Opcodes,
     prog: &[u8],
     flags: Flags,
     mode: Mode,
@@ -161,29 +150,43 @@ pub fn write_page(
     targets: &mut [u32],
     kinds: &mut [u32],
     makers: &mut [u32],
-) -> Answer
-    requires table { IsTable numbers }
-    requires decided { Decided (inputs prog flags mode ids addresses code locations fields targets kinds makers) Good }
-    ensures translated { Translated (asked prog flags mode ids addresses code locations fields targets kinds makers) code locations fields targets result }
+) -> Accepted
+    requires decided { Decided (inputs prog flags mode ids addresses code locations fields targets kinds makers) (Ok tt) }
+    ensures translated { Translated (asked prog flags mode ids addresses code locations fields targets kinds makers) code locations fields targets (Ok result) }
     ensures named { Named (asked prog flags mode ids addresses code locations fields targets kinds makers) kinds makers }
 {
     let n = Slot {
         number: prog.len() / 8,
     };
-    let e = write_begin(
-        numbers, prog, flags, mode, ids, addresses, code, locations, fields, targets, kinds, makers,
+    let mut jumps = JumpTables {
+        fields,
+        targets,
+        kinds,
+        makers,
+        count: 0,
+    };
+    let end = write_begin(
+        opcodes, prog, flags, mode, ids, addresses, code, locations, &mut jumps,
     );
-    write_end(code, locations, fields, targets, n, e.at, e.jumps);
-    let length = e.at.offset + jit::EPILOGUE_SIZE;
-    Answer::Accepted {
-        length: length,
-        jumps: e.jumps,
+    // All four are named, so that the proof knows what each lender is left with.
+    let JumpTables {
+        fields,
+        targets,
+        kinds: _kinds,
+        makers: _makers,
+        count,
+    } = jumps;
+    write_end(code, locations, fields, targets, n, end, count);
+    let length = end.offset + jit::EPILOGUE_SIZE;
+    Accepted {
+        length,
+        jumps: count,
     }
 }
 
 // The answer and the contents at exit of what is lent are what `translation_of` gives on the contents at entry, and of the kinds and makers what
 // `kinds_in` and `makers_in` do (specs/Translated.antt): accepted, the code and the tables' entries at the head, everything behind as it was;
-// refused, everything as it was.
+// refused, everything as it was. What is lent is a parameter each, as C lends it to `ndakoleem_translate_4`.
 pub fn translate(
     prog: &[u8],
     flags: Flags,
@@ -196,13 +199,13 @@ pub fn translate(
     targets: &mut [u32],
     kinds: &mut [u32],
     makers: &mut [u32],
-) -> Answer
+) -> Result<Accepted, Refusal>
     ensures translated { Translated (asked prog flags mode ids addresses code locations fields targets kinds makers) code locations fields targets result }
     ensures named { Named (asked prog flags mode ids addresses code locations fields targets kinds makers) kinds makers }
 {
-    let numbers = kind::KINDS;
-    match decide_in(
-        &numbers,
+    let opcodes = Opcodes::new();
+    decide_in(
+        &opcodes,
         prog,
         flags,
         mode,
@@ -214,11 +217,9 @@ pub fn translate(
         targets.len(),
         kinds.len(),
         makers.len(),
-    ) {
-        Verdict::Not(refusal) => Answer::Refused(refusal),
-        Verdict::Good => write_page(
-            &numbers, prog, flags, mode, ids, addresses, code, locations, fields, targets, kinds,
-            makers,
-        ),
-    }
+    )?;
+    Ok(write_page(
+        &opcodes, prog, flags, mode, ids, addresses, code, locations, fields, targets, kinds,
+        makers,
+    ))
 }

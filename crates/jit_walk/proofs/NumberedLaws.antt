@@ -1,5 +1,6 @@
 -- A slot's code by its opcode's entry in the table is the code that its step gives; the kinds that take nothing from elsewhere and list no
 -- jump have theirs whatever is behind them.
+use Rattle.std.proofs.Common.{Option, Some, None}
 use mathlib.Core.Path.{◌≡◌, ◌∙◌, refl, ap}
 use mathlib.Core.Bool.{Bool, true, false, ◌&&◌}
 use mathlib.Core.List.{List, [], ◌∷◌}
@@ -9,7 +10,7 @@ use lib.Dec.{leb, ltb}
 use lib.ListN.{length, get_or}
 use borrow.Author.Tests.{ltb-false, leb-true}
 use Rattle.base.specs.Cases.{Arm, ◌⇒◌, cases}
-use Rattle.base.proofs.CasesLaws.{None, rest}
+use Rattle.base.proofs.CasesLaws.{None as NoneOf, rest}
 use Rattle.base.specs.Pick.{pick}
 use Rattle.ebpf.specs.Insn.{insn_at, read_at}
 use Rattle.ebpf.specs.Opcode.{kind_of}
@@ -17,8 +18,6 @@ use Rattle.ebpf.specs.Kinds.{numbers, number_of, numbered}
 use Rattle.ebpf.specs.Kinds.{LD-DW-IMM, MULDIVMOD, LE, BE, JA, JUMP, CALL, LD-ABS, LD-IND, LD-REG, ST-IMM, ST-REG, ALU, SHIFT, NEG, MOV, EXIT}
 use Rattle.ebpf.proofs.KindsLaws.{number-at}
 use Rattle.ebpf.specs.declared.insn.Insn.{Insn}
-use Rattle.ebpf.specs.declared.insn.Read.{Read}
-use Rattle.ebpf.specs.declared.insn.Read.TheVariants.{Whole, Torn}
 use Rattle.ebpf.specs.declared.kind.Kind.{Kind}
 use Rattle.ebpf.specs.declared.kind.Kind.TheVariants.{LdAbs, LdInd, LdDwImm, LdReg, StImm, StReg, Alu, Shift, Neg, MulDivMod, Mov}
 use Rattle.ebpf.specs.declared.kind.Kind.TheVariants.{Le, Be, Ja, Jump, Call, Exit}
@@ -44,10 +43,10 @@ looked {n = n} {i = i} is e = kind_is i.opc n is.opc is.table e
 abbrev pub elsewhere : List (Arm Bool)
 elsewhere = CALL ⇒ true ∷ JUMP ⇒ true ∷ JA ⇒ true ∷ MULDIVMOD ⇒ true ∷ LD-DW-IMM ⇒ true ∷ []
 
-pub other : {number : ℕ} → None elsewhere number → Others number
+pub other : {number : ℕ} → NoneOf elsewhere number → Others number
 other none = record { wide = none.0.0.0.0.1; divides = none.0.0.0.1; ja = none.0.0.1; jumps = none.0.1; calls = none.1 }
 
-module _ (filter : Filter) (slot : ℕ) (i : Insn) (next : Read) where
+module _ (filter : Filter) (slot : ℕ) (i : Insn) (next : Option Insn) where
   pub record Agrees (l : Lookup) : Type 0 where
     pub same : plain_code filter.mode l i ≡ looked_up filter l slot i next
     pub none : targets_of (plain_code filter.mode l i) ≡ []
@@ -96,7 +95,7 @@ coded =
     ∷ LD-ABS ⇒ true
     ∷ []
 
-pub no_code : (m : Mode) {number : ℕ} {i : Insn} → Numbered number i → Others number → None coded number → plain_code m (kind_of i.opc) i ≡ []
+pub no_code : (m : Mode) {number : ℕ} {i : Insn} → Numbered number i → Others number → NoneOf coded number → plain_code m (kind_of i.opc) i ≡ []
 no_code m {number} {i} is h none = by (kind_of i.opc) (is.table ∙ number-at i.opc is.opc)
   where
     not : {n : ℕ} {A : Type 0} → number ≡ n → cases coded false n ≡ true → A
@@ -161,7 +160,7 @@ module _ (filter : Filter) (slot : ℕ) (b : Block) where
   abbrev i : Insn
   i = insn_at filter.program slot
 
-  abbrev next : Read
+  abbrev next : Option Insn
   next = read_at filter.program (slot + 1)
 
   taken_is : (k : Kind) (o : Operand) → operand_in filter k slot i ≡ o → go b ≡ taken filter.mode k slot i o
@@ -193,7 +192,7 @@ module _ (filter : Filter) (slot : ℕ) (b : Block) where
   written e = by (ltb (length filter.program) (8 * slot + 8)) refl e
     where
       by : (t : Bool) → ltb (length filter.program) (8 * slot + 8) ≡ t
-          → go b ≡ step_read filter slot (pick t Torn (Whole i)) next
+          → go b ≡ step_read filter slot (pick t None (Some i)) next
           → Written filter slot b
       by true q e = not-stop e
       by false q e = registers (leb i.dst 10) (leb i.src 10) refl refl (ltb-false (length filter.program) (8 * slot + 8) q) e

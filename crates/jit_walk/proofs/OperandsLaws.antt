@@ -1,29 +1,27 @@
--- The search for a helper, id by id.
-use mathlib.Core.Path.{◌≡◌}
-use mathlib.Core.List.{List}
-use Prim.Native.Nat.{ℕ, ◌+◌, ◌<◌, ◌≤◌}
-use native.Mathlib.Numerals.{add-one}
-use lib.ListN.{length, get_or, drop, drop_of_length-le}
+-- The search for a helper: the address beside the first entry that is the id.
+use Rattle.std.proofs.Common.{◌≡◌, ℕ, ◌+◌, Bool, true, false, cond, List, [], ◌∷◌, length, eqb, Option, Some, None, get_or, drop, refl, arith}
+use Rattle.std.specs.List.{position_from}
 use lib.Seq.{drop-cons}
-use borrow.Author.Tests.{eq-eqb, ne_eqb}
-use Rattle.jit.specs.declared.Helper.TheVariants.{Address, Missing}
-use Rattle.jit.specs.Translation.{helper_of}
+use native.Mathlib.Numerals.{add-one}
+use Rattle.jit.specs.Translation.{helper_of, found}
 
--- The search for a helper, one id further.
-module _ (ids addresses : List ℕ) (id : ℕ) where
-  abbrev pub Searching : ℕ → Type 0
-  Searching k = helper_of ids addresses id ≡ helper_of (drop k ids) (drop k addresses) id
+-- the address at an entry that was found
+abbrev pub address_at : List ℕ → Option ℕ → Option ℕ
+address_at addresses None = None
+address_at addresses (Some k) = Some (get_or addresses k 0)
 
-  pub search-on : (k : ℕ) → k < length ids → k < length addresses → ¬ (get_or ids k 0 ≡ id)
-      → helper_of (drop k ids) (drop k addresses) id ≡ helper_of (drop (k + 1) ids) (drop (k + 1) addresses) id
+module _ (addresses : List ℕ) (id : ℕ) where
+  helper-from : (ids : List ℕ) (k : ℕ) → k + length ids ≡ length addresses
+      → address_at addresses (position_from (λ x. eqb x id) k ids) ≡ helper_of ids (drop k addresses) id
   unfolding helper_of
-  search-on k h g n = rw (add-one k, drop-cons ids k 0 h, drop-cons addresses k 0 g, ne_eqb _ _ n)
+  helper-from [] k e = refl
+  helper-from (x ∷ ids) k e = rw (drop-cons addresses k 0 (omega (arith, e)), ← add-one k) (by (eqb x id) (helper-from ids (k + 1) (omega (arith, e))))
+    where
+      by : (t : Bool) → address_at addresses (position_from (λ y. eqb y id) (k + 1) ids) ≡ helper_of ids (drop (k + 1) addresses) id
+          → address_at addresses (cond t (Some k) (position_from (λ y. eqb y id) (k + 1) ids))
+          ≡ found t (get_or addresses k 0) (helper_of ids (drop (k + 1) addresses) id)
+      by true h = refl
+      by false h = h
 
-  pub search-hit : (k : ℕ) → k < length ids → k < length addresses → get_or ids k 0 ≡ id
-      → helper_of (drop k ids) (drop k addresses) id ≡ Address (get_or addresses k 0)
-  unfolding helper_of
-  search-hit k h g e = rw (drop-cons ids k 0 h, drop-cons addresses k 0 g, eq-eqb _ _ e)
-
-  pub search-end : (k : ℕ) → length ids ≤ k → helper_of (drop k ids) (drop k addresses) id ≡ Missing
-  unfolding helper_of
-  search-end k h = rw (drop_of_length-le ids h)
+  pub helper-is : (ids : List ℕ) → length ids ≡ length addresses → address_at addresses (position_from (λ x. eqb x id) 0 ids) ≡ helper_of ids addresses id
+  helper-is ids e = helper-from ids 0 (omega (arith, e))

@@ -1,4 +1,6 @@
 -- What holds at the head of both passes' loops: the blocks of a part are done, and what is left of the walk, joined to them, is the whole.
+use Rattle.std.proofs.Common.{Option, Some, None}
+use Rattle.base.specs.declared.Slot.{Slot}
 use mathlib.Core.Path.{◌≡◌, ◌∙◌, refl, sym}
 use mathlib.Core.List.{List, [], ◌∷◌, ◌++◌, append-nil, append_assoc}
 use Prim.Native.Nat.{ℕ, zero, suc, ◌+◌, ◌*◌, ◌/◌, ◌<◌, ◌≤◌}
@@ -8,8 +10,6 @@ use lib.Dec.{leb}
 use lib.ListN.{length, length-append}
 use borrow.Author.Tests.{lt-ltb, le-ltb, le-leb, lt-leb}
 use Rattle.jit.specs.declared.Refusal.{Refusal}
-use Rattle.jit.specs.declared.Bad.{Bad}
-use Rattle.jit.specs.declared.Bad.TheVariants.{Nowhere, At}
 use Rattle.x86.specs.Code.{size, targets_of}
 use Rattle.x86.proofs.CodeLaws.{size-append, targets-append}
 use Rattle.jit.specs.Translation.{Filter, at, Block, stop, go, step_at, Walk, refused, done, joined, slots_wide, slots_in, within, after, rest}
@@ -32,13 +32,13 @@ starts-snoc p (a ∷ bs) b =
     rw (starts-snoc (p + size a.code) bs b, size-append a.code (flat bs), add_assoc p (size a.code) (size (flat bs)))
     (sym (append_assoc (entries p a.wide) (starts (p + size a.code) bs) (entries (p + (size a.code + size (flat bs))) b.wide)))
 
-or_else-assoc : (a b c : Bad) → or_else a (or_else b c) ≡ or_else (or_else a b) c
-or_else-assoc Nowhere b c = refl
-or_else-assoc (At s) b c = refl
+or_else-assoc : (a b c : Option Slot) → or_else a (or_else b c) ≡ or_else (or_else a b) c
+or_else-assoc None b c = refl
+or_else-assoc (Some s) b c = refl
 
-or_else-none : (a : Bad) → or_else a Nowhere ≡ a
-or_else-none Nowhere = refl
-or_else-none (At s) = refl
+or_else-none : (a : Option Slot) → or_else a None ≡ a
+or_else-none None = refl
+or_else-none (Some s) = refl
 
 bad-snoc : (n slot : ℕ) (bs : List Block) (b : Block)
     → first_bad n slot (bs ++ (b ∷ [])) ≡ or_else (first_bad n slot bs) (bad_in n (slot + slots_in bs) (targets_of b.code))
@@ -141,7 +141,7 @@ module _ {filter : Filter} {page start : ℕ} {w : Walk} {bs : List Block} {slot
   jumps-on b e =
       rw (flat-snoc bs b, targets-append (flat bs) b.code, length-append (targets_of (flat bs)) (targets_of b.code)) (omega (arith, e))
 
-  pub bad-on : (b : Block) (n : ℕ) {x : Bad} → x ≡ first_bad n 0 bs
+  pub bad-on : (b : Block) (n : ℕ) {x : Option Slot} → x ≡ first_bad n 0 bs
       → or_else x (bad_in n slot (targets_of b.code)) ≡ first_bad n 0 (bs ++ (b ∷ []))
   bad-on b n e = rw (e, s.slots-are, bad-snoc n 0 bs b, zero-add (slots_in bs)) refl
 

@@ -1,11 +1,10 @@
 -- A slot's code by its opcode's entry in the table, which is what the writing pass goes by. That this is the code that its step gives is a
 -- law (proofs/NumberedLaws.antt).
-use Rattle.std.specs.Prelude.{◌≡◌, Bool, List, [], ℕ, ◌+◌, ◌*◌, ◌<◌, ◌≤◌, eqb, length, get_or}
+use Rattle.std.specs.Prelude.{◌≡◌, Bool, List, [], ℕ, ◌+◌, ◌*◌, ◌<◌, ◌≤◌, eqb, length, get_or, Option}
 use Rattle.ebpf.specs.Insn.{insn_at, read_at}
 use Rattle.ebpf.specs.Opcode.{kind_of}
 use Rattle.ebpf.specs.Kinds.{numbers, LD-DW-IMM, MULDIVMOD, JA, JUMP, CALL}
 use Rattle.ebpf.specs.declared.insn.Insn.{Insn}
-use Rattle.ebpf.specs.declared.insn.Read.{Read}
 use Rattle.ebpf.specs.declared.kind.Lookup.{Lookup}
 use Rattle.ebpf.specs.declared.kind.Lookup.TheVariants.{Known, Unimplemented, Unknown}
 use Rattle.jit.specs.declared.Mode.{Mode}
@@ -19,7 +18,7 @@ value_in (lacks r) = 0
 value_in (has value) = value
 
 -- the code of what an opcode is looked up as; what is not translated has none
-abbrev pub looked_up : Filter → Lookup → (slot : ℕ) → Insn → (next : Read) → Code
+abbrev pub looked_up : Filter → Lookup → (slot : ℕ) → Insn → (next : Option Insn) → Code
 looked_up filter Unknown slot i next = []
 looked_up filter Unimplemented slot i next = []
 looked_up filter (Known k) slot i next = slot_code filter.mode k slot i (value_in (operand_of filter k slot i next))

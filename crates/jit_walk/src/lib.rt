@@ -4,4 +4,3 @@
 #![tactic(auto)]
 
 pub mod operand;
-pub mod verdict;

@@ -24,20 +24,13 @@ use Rattle.jit.specs.JumpTables.{made_from}
 use Rattle.jit.specs.Passes.{starts}
 use Rattle.jit.proofs.Bounds.{wide-some}
 use Rattle.jit_recording.specs.Emits.{Tables, Put, Emits, HasEntry, Room}
-use Rattle.jit_recording.proofs.EmitsLaws.{put-none, puts}
+use Rattle.jit_recording.proofs.EmitsLaws.{put-none, puts, put-length}
 use Rattle.jit_walk.specs.Numbered.{SlotRead, code_at, is_wide}
 use Rattle.jit_walk.proofs.NumberedLaws.{Written, written}
 use Rattle.jit_walk.proofs.Sofar.{Sofar, flat-snoc, starts-snoc, begins, stops, sound, goes_on, ends, next-is}
 use Rattle.jit.specs.Limits.{longest_page}
 use Rattle.jit.specs.Room.{epilogue_size}
 use Rattle.jit_writing.specs.Writes.{Fits, Writes}
-
--- the jump tables have the lengths that they had
-pub record SameLengths (t t₀ : Tables) : Type 0 where
-  pub fields : length t.fields ≡ length t₀.fields
-  pub targets : length t.targets ≡ length t₀.targets
-  pub kinds : length t.kinds ≡ length t₀.kinds
-  pub makers : length t.makers ≡ length t₀.makers
 
 -- at the head of the writing loop
 pub record Writing (filter : Filter) (page start : ℕ) (c₀ c l₀ l : List ℕ) (t₀ t : Tables) (slot at jumps : ℕ) : Type 0 where
@@ -51,8 +44,6 @@ pub record Writing (filter : Filter) (page start : ℕ) (c₀ c l₀ l : List �
   pub kinds : Put t₀.kinds t.kinds 1 jumps (kinds_of (flat bs))
   pub makers : Put t₀.makers t.makers 1 jumps (made_from 0 bs)
   pub page-same : length c ≡ length c₀
-  pub locations-same : length l ≡ length l₀
-  pub tables-same : SameLengths t t₀
 
 pub writing_begins : (filter : Filter) (page start : ℕ) (c l : List ℕ) (t : Tables) → start ≤ page → Writing filter page start c c l l t t 0 start 1
 writing_begins filter page start c l t h =
@@ -67,8 +58,6 @@ writing_begins filter page start c l t h =
       kinds = put-none;
       makers = put-none;
       page-same = refl;
-      locations-same = refl;
-      tables-same = record { fields = refl; targets = refl; kinds = refl; makers = refl };
     }
 
 abbrev opc_at : List ℕ → ℕ → ℕ
@@ -102,8 +91,8 @@ module _ {filter : Filter} {page start : ℕ} {c₀ c l₀ l : List ℕ} {t₀ t
 
   pub writing-on : {s at' jumps' : ℕ} {c' l' : List ℕ} {t' : Tables} (b : Block) → 8 * slot < length filter.program → go b ≡ step_at filter slot
       → Put l l' slot s (entries at b.wide) → s ≡ slot + slots_wide b.wide → Emits c c' t t' at jumps at' jumps' slot b.code
-      → length c' ≡ length c → length l' ≡ length l → SameLengths t' t → Writing filter page start c₀ c' l₀ l' t₀ t' s at' jumps'
-  writing-on {s} {at'} {jumps'} b h e pl q em u v x =
+      → length c' ≡ length c → Writing filter page start c₀ c' l₀ l' t₀ t' s at' jumps'
+  writing-on {s} {at'} {jumps'} b h e pl q em u =
       let place : at' ≡ at + size b.code = em.wrote.next ∙ rw (length-blanks b.code) in
       let one = (sound m.sofar b e).jumps in
       let more : jumps' ≡ jumps + length (targets_of b.code) = em.targets.next in
@@ -118,14 +107,6 @@ module _ {filter : Filter} {page start : ℕ} {c₀ c l₀ l : List ℕ} {t₀ t
         kinds = rw (flat-snoc m.bs b, kinds-append (flat m.bs) b.code) (puts m.kinds em.kinds);
         makers = rw (made-snoc 0 m.bs b, zero-add (slots_in m.bs), ← m.sofar.slots-are) (puts m.makers em.makers);
         page-same = u ∙ m.page-same;
-        locations-same = v ∙ m.locations-same;
-        tables-same =
-            record {
-              fields = x.fields ∙ m.tables-same.fields;
-              targets = x.targets ∙ m.tables-same.targets;
-              kinds = x.kinds ∙ m.tables-same.kinds;
-              makers = x.makers ∙ m.tables-same.makers;
-            };
       }
 
   -- the slot that is next, as it is read
@@ -166,10 +147,10 @@ module _ {filter : Filter} {page start : ℕ} {c₀ c l₀ l : List ℕ} {t₀ t
         page = omega (arith, has_room b h (next-block h).1, q, m.page-same);
         entry =
             record {
-              field = omega (arith, m.few, inside, some, last.field, m.tables-same.fields);
-              target = omega (arith, m.few, inside, some, last.target, m.tables-same.targets);
-              kind = omega (arith, m.few, inside, some, last.kind, m.tables-same.kinds);
-              maker = omega (arith, m.few, inside, some, last.maker, m.tables-same.makers);
+              field = omega (arith, m.few, inside, some, last.field, put-length m.fields);
+              target = omega (arith, m.few, inside, some, last.target, put-length m.targets);
+              kind = omega (arith, m.few, inside, some, last.kind, put-length m.kinds);
+              maker = omega (arith, m.few, inside, some, last.maker, put-length m.makers);
             };
         small = omega (arith, p, q, m.page-same);
       })
@@ -178,10 +159,10 @@ module _ {filter : Filter} {page start : ℕ} {c₀ c l₀ l : List ℕ} {t₀ t
       → 8 * slot < length filter.program → SlotRead filter.program slot opc number
       → Put l l' slot next (entries at (is_wide number)) → next ≡ slot + slots_wide (is_wide number)
       → Emits c c' t t' at jumps at' jumps' slot (code_at filter slot (insn_at filter.program slot))
-      → length c' ≡ length c → length l' ≡ length l → SameLengths t' t → Writing filter page start c₀ c' l₀ l' t₀ t' next at' jumps'
-  writing-next h r put is em u v x =
+      → length c' ≡ length c → Writing filter page start c₀ c' l₀ l' t₀ t' next at' jumps'
+  writing-next h r put is em u =
       let w = next-wide h r in
-      writing-on (next-block h).0 h (next-block h).1 (rw w at put) (rw w at is) (rw (← (next-read h).code) at em) u v x
+      writing-on (next-block h).0 h (next-block h).1 (rw w at put) (rw w at is) (rw (← (next-read h).code) at em) u
 
   pub writing-ends : length filter.program ≤ 8 * slot → Writes (walk_from filter page start) start c₀ c l₀ l t₀ t at jumps
   writing-ends h =

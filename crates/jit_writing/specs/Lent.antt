@@ -11,8 +11,7 @@ use Rattle.jit.specs.Passes.{walked}
 use Rattle.jit.specs.MulDivMod.{Code}
 use Rattle.jit.specs.Translation.{Filter, slots_of}
 use Rattle.jit_recording.specs.Emits as E
-use Rattle.jit_recording.specs.Lent.{tables, lent, left}
-use Rattle.jit_recording.specs.declared.emission.Emission.{Emission}
+use Rattle.jit_recording.specs.Lent.{MutTables, TablesLent, SameBorrows, tables}
 use Rattle.jit_walk.specs.Numbered as N
 use Rattle.jit_writing.specs.Writes as W
 
@@ -29,17 +28,18 @@ abbrev pub Put : (locations : MutLent) → (slot r : Slot) → List ℕ → Type
 Put locations slot r ys = E.Put locations.entry.now locations.exit.now slot.number r.number ys
 
 -- the filter is accepted, and there is room for its slots' code from `start` on, for an entry of each, and for its jumps
-abbrev pub Fitting : Filter → (page : ℕ) → (start : Position) → (code locations fields targets kinds makers : MutSlice) → Type 0
-Fitting filter page start code locations fields targets kinds makers =
+abbrev pub Fitting : Filter → (page : ℕ) → (start : Position) → (code locations : MutSlice) → (jumps : MutTables) → Type 0
+Fitting filter page start code locations jumps =
     W.Fitting
     (walked filter page start) page start.offset
-    code.now locations.now (tables fields targets kinds makers) (slots_of filter.program)
+    code.now locations.now (tables jumps.now) jumps.now.count (slots_of filter.program)
 
 -- .. and these are written, up to r
-abbrev pub Writes : Filter → (page : ℕ) → (start : Position) → (code locations fields targets kinds makers : MutLent) → (r : Emission) → Type 0
-Writes filter page start code locations fields targets kinds makers r =
+abbrev pub Writes : Filter → (page : ℕ) → (start : Position) → (code locations : MutLent) → (jumps : TablesLent) → (r : Position) → Type 0
+Writes filter page start code locations jumps r =
     W.Writes
     (walked filter page start) start.offset
     code.entry.now code.exit.now locations.entry.now locations.exit.now
-    (lent fields targets kinds makers) (left fields targets kinds makers)
-    r.at.offset r.jumps
+    (tables jumps.entry.now) (tables jumps.exit.now)
+    r.offset jumps.exit.now.count
+    × SameBorrows jumps.entry.now jumps.exit.now

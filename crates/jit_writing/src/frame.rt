@@ -3,14 +3,13 @@ ghost use Rattle.std.specs.Prelude.{◌++◌, ◌+◌, ◌≤◌, ◌<◌, ◌^�
 ghost use Rattle.x86.specs.Fill.{blanks};
 ghost use Rattle.x86_emit.specs.Lent.{FitAll, Stores, Wrote};
 ghost use Rattle.jit.specs.Frame.{saves, keep_packet, packet_start, packet_end, argument, enter, prologue, epilogue};
-ghost use Rattle.jit_recording.specs.Lent.{Emits, Room, nothing};
+ghost use Rattle.jit_recording.specs.Lent.{Emits, Room, first};
 ghost use Rattle.jit.specs.Room.{epilogue_size};
 
 use base::{Position, Size, Slot, Width};
 use ebpf::constants::STACK_SIZE;
 use jit::Flags;
-use jit_recording::emission;
-use jit_recording::emission::Emission;
+use jit_recording::emission::JumpTables;
 use x86::{ADD, GROUP1, GROUP1_SUB, MOV, R8, R9, RBP, RCX, RDI, RDX, RSP};
 
 // The program's stack, in bytes.
@@ -62,19 +61,11 @@ fn emit_argument(code: &mut [u8], at: Position, flags: Flags) -> Position
 }
 
 // r10, the stack, and a call over the jump to the exit: the program's last return comes back to that jump.
-fn emit_enter(
-    code: &mut [u8],
-    fields: &mut [u32],
-    targets: &mut [u32],
-    kinds: &mut [u32],
-    makers: &mut [u32],
-    e: Emission,
-    n: Slot,
-) -> Emission
-    requires { Room code fields targets kinds makers e enter × (n.number < 2 ^ 16) }
-    ensures { Emits code fields targets kinds makers e result n enter }
+fn emit_enter(code: &mut [u8], at: Position, jumps: &mut JumpTables<'_>, n: Slot) -> Position
+    requires { Room code at jumps enter × (n.number < 2 ^ 16) }
+    ensures { Emits code at result jumps n enter }
 {
-    let based = x86_emit::alu::emit_alu(code, e.at, Width::W64, MOV, RSP, RBP);
+    let based = x86_emit::alu::emit_alu(code, at, Width::W64, MOV, RSP, RBP);
     let stacked = x86_emit::alu::emit_alu_imm32(
         code,
         based,
@@ -86,46 +77,18 @@ fn emit_enter(
     );
     let called = x86_emit::jump::emit_call(code, stacked, JMP_SIZE);
     let jumped = x86_emit::jump::emit_jmp(code, called, 0);
-    emission::record_jump(
-        fields,
-        targets,
-        kinds,
-        makers,
-        jumped,
-        e.jumps,
-        jit::ANCHOR,
-        jit::PLAIN,
-        n,
-    )
+    jumps.record_jump(jumped, jit::ANCHOR, jit::PLAIN, n);
+    jumped
 }
 
 // The jump is made by no slot: its maker is n, the number behind the last.
-pub fn emit_prologue(
-    code: &mut [u8],
-    fields: &mut [u32],
-    targets: &mut [u32],
-    kinds: &mut [u32],
-    makers: &mut [u32],
-    flags: Flags,
-    n: Slot,
-) -> Emission
-    requires { Room code fields targets kinds makers nothing (prologue flags) × (n.number < 2 ^ 16) }
-    ensures { Emits code fields targets kinds makers nothing result n (prologue flags) }
+pub fn emit_prologue(code: &mut [u8], jumps: &mut JumpTables<'_>, flags: Flags, n: Slot) -> Position
+    requires { Room code first jumps (prologue flags) × (n.number < 2 ^ 16) }
+    ensures { Emits code first result jumps n (prologue flags) }
 {
     let saved = emit_saves(code, Position { offset: 0 });
     let argued = emit_argument(code, saved, flags);
-    emit_enter(
-        code,
-        fields,
-        targets,
-        kinds,
-        makers,
-        Emission {
-            at: argued,
-            jumps: 0,
-        },
-        n,
-    )
+    emit_enter(code, argued, jumps, n)
 }
 
 // Sixteen bytes in two words, and none behind them: add rsp, 512; pop r15, r14, r13, rbx, rbp; ret.

@@ -16,22 +16,17 @@ use ebpf::constants::MOV64_IMM;
 use ebpf::insn::insn_at;
 use ebpf::kind;
 use ebpf::kind::{mul_of, size_of, source_of, width_of};
-use jit::Mode;
+use jit::{Mode, Refusal};
 use jit_dividing::muldivmod;
-use jit_recording::emission;
-use jit_recording::emission::Emission;
+use jit_recording::emission::JumpTables;
 use jit_slots::{alu, jump, load};
 use jit_walk::operand;
-use jit_walk::operand::Operand;
 
 // What a slot of an accepted program takes from elsewhere is there.
-fn value_in(operand: Operand) -> u64
+fn value_in(operand: Result<u64, Refusal>) -> u64
     ensures { result ≡ value_in (operand_is operand) }
 {
-    match operand {
-        Operand::Lacks(_) => 0,
-        Operand::Has(value) => value,
-    }
+    operand.unwrap_or(0)
 }
 
 // The kinds that take nothing from elsewhere and list no jump. An arm reads the slot's fields itself, so that none is read that it has no use
@@ -93,11 +88,8 @@ fn emit_plain(
 // `opc` is the slot's opcode, and `number` the opcode's entry in the table.
 pub fn emit_slot(
     code: &mut [u8],
-    fields: &mut [u32],
-    targets: &mut [u32],
-    kinds: &mut [u32],
-    makers: &mut [u32],
-    e: Emission,
+    at: Position,
+    jumps: &mut JumpTables<'_>,
     mode: Mode,
     number: u8,
     slot: Slot,
@@ -105,24 +97,21 @@ pub fn emit_slot(
     prog: &[u8],
     ids: &[u32],
     addresses: &[u64],
-) -> Emission
+) -> Position
     requires slot_read { SlotRead prog slot opc number × ((slot.number < 2 ^ 16) × Paired ids addresses) }
-    requires room { Room code fields targets kinds makers e (code_at (filter_in prog mode ids addresses) slot) }
-    ensures { Emits code fields targets kinds makers e result slot (code_at (filter_of prog mode ids addresses) slot) }
+    requires room { Room code at jumps (code_at (filter_in prog mode ids addresses) slot) }
+    ensures { Emits code at result jumps slot (code_at (filter_of prog mode ids addresses) slot) }
 {
     match number {
         kind::KIND_LD_DW_IMM => {
             let i = insn_at(prog, slot);
             let value = value_in(operand::wide_operand(prog, slot, i));
-            emission::onward(e, load::emit_ld_dw_imm(code, e.at, mode, i, value))
+            load::emit_ld_dw_imm(code, at, mode, i, value)
         }
         kind::KIND_MULDIVMOD => muldivmod::emit_muldivmod(
             code,
-            fields,
-            targets,
-            kinds,
-            makers,
-            e,
+            at,
+            jumps,
             mode,
             mul_of(opc),
             width_of(opc),
@@ -130,23 +119,11 @@ pub fn emit_slot(
             slot,
             insn_at(prog, slot),
         ),
-        kind::KIND_JA => jump::emit_ja(
-            code,
-            fields,
-            targets,
-            kinds,
-            makers,
-            e,
-            slot,
-            insn_at(prog, slot),
-        ),
+        kind::KIND_JA => jump::emit_ja(code, at, jumps, slot, insn_at(prog, slot)),
         kind::KIND_JUMP => jump::emit_jump(
             code,
-            fields,
-            targets,
-            kinds,
-            makers,
-            e,
+            at,
+            jumps,
             width_of(opc),
             source_of(opc),
             slot,
@@ -155,10 +132,8 @@ pub fn emit_slot(
         kind::KIND_CALL => {
             let i = insn_at(prog, slot);
             let value = value_in(operand::call_operand(ids, addresses, slot, i));
-            jump::emit_call(
-                code, fields, targets, kinds, makers, e, mode, slot, i, value,
-            )
+            jump::emit_call(code, at, jumps, mode, slot, i, value)
         }
-        _ => emission::onward(e, emit_plain(code, e.at, mode, number, opc, prog, slot)),
+        _ => emit_plain(code, at, mode, number, opc, prog, slot),
     }
 }

@@ -3,7 +3,6 @@ ghost use Rattle.std.specs.Prelude.{◌≡◌, ◌+◌, ◌≤◌, ◌<◌, ◌^
 ghost use Rattle.jit.specs.Lent.{filter_in, filter_of};
 ghost use Rattle.jit.specs.Passes.{WithinLimits};
 ghost use Rattle.jit.specs.Translation.{entries, slots_wide};
-ghost use Rattle.jit_walk.specs.Lent.{IsTable};
 ghost use Rattle.jit_walk.specs.Numbered.{is_wide};
 ghost use Rattle.jit_writing.specs.Lent.{Fitting, Put, Writes};
 
@@ -11,8 +10,9 @@ use crate::slot;
 use base::{Position, Slot};
 use ebpf::constants::INSN_SIZE;
 use ebpf::kind;
+use ebpf::kind::Opcodes;
 use jit::Mode;
-use jit_recording::emission::Emission;
+use jit_recording::emission::JumpTables;
 
 // A slot's location entries: its place, and 0 for a second half, which LD_DW_IMM alone has. The answer is the next slot.
 fn put_slot(locations: &mut [u32], slot: Slot, at: Position, number: u8) -> Slot
@@ -30,7 +30,7 @@ fn put_slot(locations: &mut [u32], slot: Slot, at: Position, number: u8) -> Slot
 
 // The slots of a program that is accepted, the first one's code at `start`. The answer is where they end, and how many jumps are listed.
 pub fn write_slots(
-    numbers: &[u8; 256],
+    opcodes: &Opcodes,
     prog: &[u8],
     mode: Mode,
     ids: &[u32],
@@ -39,28 +39,23 @@ pub fn write_slots(
     start: Position,
     code: &mut [u8],
     locations: &mut [u32],
-    fields: &mut [u32],
-    targets: &mut [u32],
-    kinds: &mut [u32],
-    makers: &mut [u32],
-) -> Emission
-    requires table { IsTable numbers × WithinLimits prog ids addresses page start }
-    requires fitting { Fitting (filter_in prog mode ids addresses) page start code locations fields targets kinds makers }
-    ensures { Writes (filter_of prog mode ids addresses) page start code locations fields targets kinds makers result }
+    jumps: &mut JumpTables<'_>,
+) -> Position
+    requires limits { WithinLimits prog ids addresses page start }
+    requires fitting { Fitting (filter_in prog mode ids addresses) page start code locations jumps }
+    ensures { Writes (filter_of prog mode ids addresses) page start code locations jumps result }
 {
     let mut next = Slot { number: 0 };
-    let mut e = Emission {
-        at: start,
-        jumps: 1,
-    };
+    let mut at = start;
+    // A step is as wide as its slot, one or two (`put_slot` says which), so no range and no `chunks` counts them.
     while INSN_SIZE * next.number < prog.len() {
         let opc = prog[INSN_SIZE * next.number];
-        let number = kind::number_in(numbers, opc);
-        let at = e.at;
-        e = slot::emit_slot(
-            code, fields, targets, kinds, makers, e, mode, number, next, opc, prog, ids, addresses,
+        let number = opcodes.number_of(opc);
+        let end = slot::emit_slot(
+            code, at, jumps, mode, number, next, opc, prog, ids, addresses,
         );
         next = put_slot(locations, next, at, number);
+        at = end;
     }
-    e
+    at
 }

@@ -1,14 +1,10 @@
 -- The words that a listing or a map is asked for with: which option a word is and what it adds to the mode, a number, a helper, a base
 -- address.
-use Rattle.std.specs.Prelude.{Bool, true, false, ◌&&◌, List, [], ◌∷◌, ℕ, ◌+◌, ◌*◌, ◌^◌, ltb, eqb, length, get_or, take, drop}
+use Rattle.std.specs.Prelude.{Option, Some, None, Bool, true, false, ◌&&◌, List, [], ◌∷◌, ℕ, ◌+◌, ◌*◌, ◌^◌, ltb, eqb, length, get_or, take, drop}
 use Rattle.base.specs.Pick.{pick}
 use Rattle.jit.specs.declared.Mode.{Mode}
 use Rattle.text.specs.Text.{ascii}
 unfoldable pub use Rattle.text.specs.Numerals.{digit_of}
-use Rattle.listing_arguments.specs.declared.Number.{Number}
-use Rattle.listing_arguments.specs.declared.Number.TheVariants.{Is, Not}
-use Rattle.listing_arguments.specs.declared.Helper.{Helper}
-use Rattle.listing_arguments.specs.declared.Helper.TheVariants.{Listed, Unclear}
 use Rattle.listing_arguments.specs.declared.Word.{Word}
 use Rattle.listing_arguments.specs.declared.Word.TheVariants.{Mbuff, UpdateDataPtr, Standard, Compact, PageSize, HelperNext, Help, File, Unknown}
 
@@ -42,44 +38,44 @@ mode_with m File = m
 mode_with m Unknown = m
 
 -- a number with one digit more, where the character is one and the number stays below 2^64
-unfoldable pub grown : ℕ → ℕ → ℕ → Number
-grown b n d = pick (ltb d b) (pick (ltb (n * b + d) (2 ^ 64)) (Is (n * b + d)) Not) Not
+unfoldable pub grown : ℕ → ℕ → ℕ → Option ℕ
+grown b n d = pick (ltb d b) (pick (ltb (n * b + d) (2 ^ 64)) (Some (n * b + d)) None) None
 
-abbrev pub read_on : ℕ → Number → List ℕ → Number
+abbrev pub read_on : ℕ → Option ℕ → List ℕ → Option ℕ
 read_on b m [] = m
-read_on b Not (c ∷ cs) = Not
-read_on b (Is n) (c ∷ cs) = read_on b (grown b n (digit_of c)) cs
+read_on b None (c ∷ cs) = None
+read_on b (Some n) (c ∷ cs) = read_on b (grown b n (digit_of c)) cs
 
 -- at least one digit
-unfoldable pub digits : ℕ → List ℕ → Number
-digits b [] = Not
-digits b (c ∷ cs) = read_on b (Is 0) (c ∷ cs)
+unfoldable pub digits : ℕ → List ℕ → Option ℕ
+digits b [] = None
+digits b (c ∷ cs) = read_on b (Some 0) (c ∷ cs)
 
 -- hexadecimal behind `0x`; else in the base b
-unfoldable pub prefixed : ℕ → List ℕ → Number
+unfoldable pub prefixed : ℕ → List ℕ → Option ℕ
 prefixed b w = pick (eqb (get_or w 0 0) 0x30 && eqb (get_or w 1 0) 0x78) (digits 16 (drop 2 w)) (digits b w)
 
 -- decimal, or hexadecimal behind `0x`
-abbrev pub number_of : List ℕ → Number
+abbrev pub number_of : List ℕ → Option ℕ
 number_of w = prefixed 10 w
 
 -- hexadecimal, behind `0x` or as it stands
-abbrev pub base_of : List ℕ → Number
+abbrev pub base_of : List ℕ → Option ℕ
 base_of w = prefixed 16 w
 
-abbrev pub helper : Number → Number → Helper
-helper (Is i) (Is a) = pick (ltb i (2 ^ 32)) (Listed i a) Unclear
-helper (Is i) Not = Unclear
-helper Not a = Unclear
+abbrev pub helper : Option ℕ → Option ℕ → Option (ℕ × ℕ)
+helper (Some i) (Some a) = pick (ltb i (2 ^ 32)) (Some (i, a)) None
+helper (Some i) None = None
+helper None a = None
 
 -- the address behind the first `=`; where there is none, one that is loaded as a Linux program's functions are, by ten bytes
-unfoldable pub address_of : List ℕ → ℕ → Number
-address_of w at = pick (ltb at (length w)) (number_of (drop (at + 1) w)) (Is 0x7f0000000000)
+unfoldable pub address_of : List ℕ → ℕ → Option ℕ
+address_of w at = pick (ltb at (length w)) (number_of (drop (at + 1) w)) (Some 0x7f0000000000)
 
 -- the place of the first byte b; the length, where there is none
 unfoldable pub index_of : ℕ → List ℕ → ℕ
 index_of b [] = 0
 index_of b (a ∷ w) = pick (eqb a b) 0 (1 + index_of b w)
 
-unfoldable pub helper_of : List ℕ → Helper
+unfoldable pub helper_of : List ℕ → Option (ℕ × ℕ)
 helper_of w = helper (number_of (take (index_of 0x3d w) w)) (address_of w (index_of 0x3d w))

@@ -11,7 +11,7 @@ ghost use Rattle.listing_arguments.specs.Arguments.{prefixed as Arguments·prefi
 
 use jit::Mode;
 
-#[derive(Clone, Copy)]
+#[derive(Clone, Copy, PartialEq, Eq)]
 pub enum Word {
     Mbuff,
     UpdateDataPtr,
@@ -26,24 +26,10 @@ pub enum Word {
     Unknown,
 }
 
-// A number, or a word that is none.
-#[derive(Clone, Copy)]
-pub enum Number {
-    Is(u64),
-    Not,
-}
-
-// A helper's id and address, or a word that is none.
-#[derive(Clone, Copy)]
-pub enum Helper {
-    Listed(u32, u64),
-    Unclear,
-}
-
 // Where a helper is that no address is said of: a page has as many bytes as with one of a Linux program's own functions.
 pub const SOME_ADDRESS: u64 = 0x7f0000000000;
 
-// Whether a word is the name.
+// Whether a word is the name. It stays beside `==` for its clause: `equal` is what `word_of` is defined over, here and in replay_options.
 pub fn is(word: &[u8], name: &[u8]) -> bool
     ensures { result ≡ equal word.now name.now }
 {
@@ -88,148 +74,108 @@ pub fn mode_with(mode: Mode, word: Word) -> Mode
     ensures { result ≡ mode_with mode word }
 {
     match word {
-        Word::Mbuff => mode,
-        Word::UpdateDataPtr => mode,
         Word::Standard => Mode {
             standard: true,
-            compact: mode.compact,
+            ..mode
         },
         Word::Compact => Mode {
-            standard: mode.standard,
             compact: true,
+            ..mode
         },
-        Word::PageSize => mode,
-        Word::HelperNext => mode,
-        Word::Help => mode,
-        Word::File => mode,
-        Word::Unknown => mode,
+        _ => mode,
     }
 }
 
 fn digit_of(c: u8) -> u64
     ensures { (result ≡ digit_of c) × (result ≤ 16) }
 {
-    if c < b'0' {
-        return 16;
+    match c {
+        b'0'..=b'9' => u64::from(c - b'0'),
+        b'A'..=b'F' => u64::from(c - b'A') + 10,
+        b'a'..=b'f' => u64::from(c - b'a') + 10,
+        _ => 16,
     }
-    if c <= b'9' {
-        return (c - b'0') as u64;
-    }
-    if c < b'A' {
-        return 16;
-    }
-    if c <= b'F' {
-        return (c - b'A') as u64 + 10;
-    }
-    if c < b'a' {
-        return 16;
-    }
-    if c <= b'f' {
-        return (c - b'a') as u64 + 10;
-    }
-    16
 }
 
-fn grown(base: u64, n: u64, digit: u64) -> Number
+fn grown(base: u64, n: u64, digit: u64) -> Option<u64>
     requires { (0 < base) × (digit ≤ 16) }
     ensures { result ≡ Arguments·grown base n digit }
 {
     if base <= digit {
-        return Number::Not;
+        return None;
     }
-    if (u64::MAX - digit) / base < n {
-        return Number::Not;
-    }
-    Number::Is(n * base + digit)
+    let Some(shifted) = n.checked_mul(base) else {
+        return None;
+    };
+    shifted.checked_add(digit)
 }
 
-fn digits(base: u64, word: &[u8]) -> Number
+fn digits(base: u64, word: &[u8]) -> Option<u64>
     requires { 0 < base }
     ensures { result ≡ Arguments·digits base word.now }
 {
-    if word.len() == 0 {
-        return Number::Not;
+    if word.is_empty() {
+        return None;
     }
     let mut n = 0;
-    let mut i = 0;
-    while i < word.len() {
-        let Number::Is(more) = grown(base, n, digit_of(word[i])) else {
-            return Number::Not;
-        };
-        n = more;
-        i += 1;
+    for c in word {
+        n = grown(base, n, digit_of(*c))?;
     }
-    Number::Is(n)
+    Some(n)
 }
 
 // In hexadecimal behind 0x; else in the base that is said.
-fn prefixed(base: u64, word: &[u8]) -> Number
+fn prefixed(base: u64, word: &[u8]) -> Option<u64>
     requires { 0 < base }
     ensures { result ≡ Arguments·prefixed base word.now }
 {
-    if word.len() < 2 {
-        return digits(base, word);
+    match word {
+        [b'0', b'x', rest @ ..] => digits(16, rest),
+        _ => digits(base, word),
     }
-    if word[0] != b'0' {
-        return digits(base, word);
-    }
-    if word[1] != b'x' {
-        return digits(base, word);
-    }
-    digits(16, &word[2..])
 }
 
 // A number in decimal or, behind 0x, in hexadecimal.
-pub fn number_of(word: &[u8]) -> Number
+pub fn number_of(word: &[u8]) -> Option<u64>
     ensures { result ≡ number_of word.now }
 {
     prefixed(10, word)
 }
 
 // A base address: a number in hexadecimal, with or without 0x in front.
-pub fn base_of(word: &[u8]) -> Number
+pub fn base_of(word: &[u8]) -> Option<u64>
     ensures { result ≡ base_of word.now }
 {
     prefixed(16, word)
 }
 
-fn address_of(word: &[u8], at: usize) -> Number
+fn address_of(word: &[u8], at: usize) -> Option<u64>
     ensures { result ≡ address_of word.now at }
 {
     if word.len() <= at {
-        return Number::Is(SOME_ADDRESS);
+        return Some(SOME_ADDRESS);
     }
-    let behind = at + 1;
-    number_of(&word[behind..])
+    number_of(&word[at + 1..])
 }
 
 // The place of the first byte `b`; where there is none, how many bytes there are.
 fn find(word: &[u8], b: u8) -> usize
     ensures { (result ≡ index_of b word.now) × (result ≤ length word.now) }
 {
-    let mut i = 0;
-    while i < word.len() {
-        if word[i] == b {
+    for (i, c) in word.iter().enumerate() {
+        if *c == b {
             return i;
         }
-        i += 1;
     }
-    i
+    word.len()
 }
 
-// A helper, as ID or ID=ADDRESS.
-pub fn helper_of(word: &[u8]) -> Helper
+// A helper's id and address, as ID or ID=ADDRESS.
+pub fn helper_of(word: &[u8]) -> Option<(u32, u64)>
     ensures { result ≡ helper_of word.now }
 {
     let at = find(word, b'=');
-    let Number::Is(id) = number_of(&word[..at]) else {
-        return Helper::Unclear;
-    };
-    let Number::Is(address) = address_of(word, at) else {
-        return Helper::Unclear;
-    };
-    if 0xffff_ffff < id {
-        return Helper::Unclear;
-    }
-    Helper::Listed(id as u32, address)
+    let id = number_of(&word[..at])?;
+    let address = address_of(word, at)?;
+    Some((u32::try_from(id).ok()?, address))
 }

@@ -50,13 +50,11 @@ pub fn list_slots(rt: &HostRuntime, prog: &[u8], until: usize) -> usize
 {
     let mut line = [0u8; LINE];
     let slots = prog.len() / 8;
-    let mut slot = 0;
-    while slot < slots {
+    for slot in 0..slots {
         if until < slot {
             return slot;
         }
         list_bytecode(rt, &mut line, prog, slot);
-        slot += 1;
     }
-    slot
+    slots
 }

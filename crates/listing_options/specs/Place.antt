@@ -1,9 +1,7 @@
 -- What the word asks for that stands where the base address is wanted.
-use Rattle.std.specs.Prelude.{◌≡◌, Bool, true, false, List, ℕ, ◌≤◌, take}
+use Rattle.std.specs.Prelude.{Option, Some, None, ◌≡◌, Bool, true, false, List, ℕ, ◌≤◌, take}
 use Rattle.std.proofs.Math.ListN as list_n
 use Rattle.base.specs.Pick.{pick}
-use Rattle.listing_arguments.specs.declared.Number.{Number}
-use Rattle.listing_arguments.specs.declared.Number.TheVariants.{Is, Not}
 use Rattle.listing_arguments.specs.declared.Word.{Word}
 use Rattle.listing_arguments.specs.declared.Word.TheVariants as words
 use Rattle.listing_arguments.specs.Arguments.{word_of, base_of}
@@ -11,9 +9,9 @@ use Rattle.listing_options.specs.declared.place.Base.{Base}
 use Rattle.listing_options.specs.declared.place.Base.TheVariants.{At, Help, Unclear}
 
 -- a base address, or that it is none
-abbrev pub numbered : Number → Base
-numbered (Is n) = At n
-numbered Not = Unclear
+abbrev pub numbered : Option ℕ → Base
+numbered (Some n) = At n
+numbered None = Unclear
 
 abbrev pub base_in : List ℕ → Base
 base_in w = numbered (base_of w)

@@ -21,9 +21,7 @@ fn put_end(out: &mut [u8], at: usize, program: Program, more: &[u8]) -> usize
             let next = put_text(out, at, more);
             put_byte(out, next, b'\n')
         }
-        Program::Map => put_byte(out, at, b'\n'),
-        Program::Maps => put_byte(out, at, b'\n'),
-        Program::Replay => put_byte(out, at, b'\n'),
+        Program::Map | Program::Maps | Program::Replay => put_byte(out, at, b'\n'),
     }
 }
 

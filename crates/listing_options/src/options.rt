@@ -7,7 +7,7 @@ ghost use Rattle.listing_options.specs.Options.{Held};
 ghost use Rattle.listing_options.specs.Help.{name_of, complaint};
 
 use jit::{Flags, LONGEST_PAGE, MOST_HELPERS, Mode, SHORTEST_PAGE};
-use listing_arguments::{Helper, Number, Word, helper_of, mode_with, number_of, word_of};
+use listing_arguments::{Word, helper_of, mode_with, number_of, word_of};
 use text::form::put_form;
 use text::text::put_text;
 
@@ -29,31 +29,28 @@ pub enum Program {
     Replay,
 }
 
+// What the next word is.
+#[derive(Clone, Copy, PartialEq, Eq)]
+pub enum Next {
+    Any,
+    // The word before it was --page, or --helper.
+    Page,
+    Helper,
+}
+
 #[derive(Clone, Copy)]
 pub struct Options {
     pub program: Program,
-    pub use_mbuff: bool,
-    pub update_data_ptr: bool,
+    pub flags: Flags,
     pub mode: Mode,
     pub page: usize,
     // Which argument is the file's name; 0 where there is none.
     pub file: usize,
-    // How many helpers are listed.
+    // How many helpers are listed. Their ids and addresses stay in two slices, as the C interface and `translate` take them.
     pub helpers: usize,
     pub help: bool,
     pub wrong: bool,
-    // The word before this one was --page, or --helper.
-    pub page_next: bool,
-    pub helper_next: bool,
-}
-
-pub fn flags_of(options: Options) -> Flags
-    ensures { (result.use_mbuff ≡ options.use_mbuff) × (result.update_data_ptr ≡ options.update_data_ptr) }
-{
-    Flags {
-        use_mbuff: options.use_mbuff,
-        update_data_ptr: options.update_data_ptr,
-    }
+    pub next: Next,
 }
 
 fn put_name(line: &mut [u8], program: Program) -> usize
@@ -91,36 +88,35 @@ pub fn complain(
 pub fn wronged(rt: &HostRuntime, options: Options, what: &[u8], word: &[u8]) -> Options
     ensures { (result.page ≡ options.page) × (result.helpers ≡ options.helpers) }
 {
-    let program = options.program;
-    let mut changed = options;
     let mut line = [0u8; SENTENCE];
-    complain(rt, &mut line, program, what, word);
-    changed.wrong = true;
-    changed
+    complain(rt, &mut line, options.program, what, word);
+    Options {
+        wrong: true,
+        ..options
+    }
 }
 
 // What is above the largest page stays there.
 fn clamped(n: u64) -> usize
     ensures { result ≤ longest_page + 1 }
 {
-    if n < LARGEST as u64 {
-        return n as usize;
-    }
-    LARGEST
+    n.min(LARGEST as u64) as usize
 }
 
 fn with_page(rt: &HostRuntime, options: Options, word: &[u8]) -> Options
     requires { options.page ≤ longest_page + 1 }
     ensures { (result.page ≤ longest_page + 1) × (result.helpers ≡ options.helpers) }
 {
-    let mut changed = options;
-    changed.page_next = false;
+    let read = Options {
+        next: Next::Any,
+        ..options
+    };
     match number_of(word) {
-        Number::Is(n) => {
-            changed.page = clamped(n);
-            changed
-        }
-        Number::Not => wronged(rt, changed, b"the page size is not a number: ", word),
+        Some(n) => Options {
+            page: clamped(n),
+            ..read
+        },
+        None => wronged(rt, read, b"the page size is not a number: ", word),
     }
 }
 
@@ -144,17 +140,15 @@ fn with_listed(
     ensures { Held result ids.exit addresses.exit }
 {
     let at = options.helpers;
-    if ids.len() <= at {
+    if ids.len() <= at || addresses.len() <= at {
         return with_one_too_many(rt, options);
     }
-    if addresses.len() <= at {
-        return with_one_too_many(rt, options);
-    }
-    let mut changed = options;
     ids[at] = id;
     addresses[at] = address;
-    changed.helpers = at + 1;
-    changed
+    Options {
+        helpers: at + 1,
+        ..options
+    }
 }
 
 fn with_helper(
@@ -167,13 +161,15 @@ fn with_helper(
     requires { Held options ids addresses }
     ensures { Held result ids.exit addresses.exit }
 {
-    let mut changed = options;
-    changed.helper_next = false;
+    let read = Options {
+        next: Next::Any,
+        ..options
+    };
     match helper_of(word) {
-        Helper::Listed(id, address) => with_listed(rt, changed, id, address, ids, addresses),
-        Helper::Unclear => wronged(
+        Some((id, address)) => with_listed(rt, read, id, address, ids, addresses),
+        None => wronged(
             rt,
-            changed,
+            read,
             b"a helper is ID or ID=ADDRESS, in decimal or behind 0x in hexadecimal, and not ",
             word,
         ),
@@ -183,51 +179,51 @@ fn with_helper(
 fn with_file(rt: &HostRuntime, options: Options, index: usize, word: &[u8]) -> Options
     ensures { (result.page ≡ options.page) × (result.helpers ≡ options.helpers) }
 {
-    let mut changed = options;
     if 0 < options.file {
-        return wronged(rt, changed, b"a second file: ", word);
+        return wronged(rt, options, b"a second file: ", word);
     }
-    changed.file = index;
-    changed
-}
-
-fn with_mode(options: Options, word: Word) -> Options
-    ensures { (result.page ≡ options.page) × (result.helpers ≡ options.helpers) }
-{
-    let mode = mode_with(options.mode, word);
-    let mut changed = options;
-    changed.mode = mode;
-    changed
+    Options {
+        file: index,
+        ..options
+    }
 }
 
 // A word that is no number and no helper.
 fn with_option(rt: &HostRuntime, options: Options, index: usize, word: &[u8]) -> Options
     ensures { (result.page ≡ options.page) × (result.helpers ≡ options.helpers) }
 {
-    let mut changed = options;
-    match word_of(word) {
-        Word::Mbuff => {
-            changed.use_mbuff = true;
-            changed
-        }
-        Word::UpdateDataPtr => {
-            changed.update_data_ptr = true;
-            changed
-        }
-        Word::Standard => with_mode(options, Word::Standard),
-        Word::Compact => with_mode(options, Word::Compact),
-        Word::PageSize => {
-            changed.page_next = true;
-            changed
-        }
-        Word::HelperNext => {
-            changed.helper_next = true;
-            changed
-        }
-        Word::Help => {
-            changed.help = true;
-            changed
-        }
+    let asked = word_of(word);
+    match asked {
+        Word::Mbuff => Options {
+            flags: Flags {
+                use_mbuff: true,
+                ..options.flags
+            },
+            ..options
+        },
+        Word::UpdateDataPtr => Options {
+            flags: Flags {
+                update_data_ptr: true,
+                ..options.flags
+            },
+            ..options
+        },
+        Word::Standard | Word::Compact => Options {
+            mode: mode_with(options.mode, asked),
+            ..options
+        },
+        Word::PageSize => Options {
+            next: Next::Page,
+            ..options
+        },
+        Word::HelperNext => Options {
+            next: Next::Helper,
+            ..options
+        },
+        Word::Help => Options {
+            help: true,
+            ..options
+        },
         Word::File => with_file(rt, options, index, word),
         Word::Unknown => wronged(rt, options, b"unknown option ", word),
     }
@@ -245,13 +241,11 @@ pub fn with_word(
     requires { Held options ids addresses }
     ensures { Held result ids.exit addresses.exit }
 {
-    if options.page_next {
-        return with_page(rt, options, word);
+    match options.next {
+        Next::Any => with_option(rt, options, index, word),
+        Next::Page => with_page(rt, options, word),
+        Next::Helper => with_helper(rt, options, word, ids, addresses),
     }
-    if options.helper_next {
-        return with_helper(rt, options, word, ids, addresses);
-    }
-    with_option(rt, options, index, word)
 }
 
 // The argument `index`, which is read here; one that is too long to read is no option, no number and no file.
@@ -276,13 +270,11 @@ fn with_argument(
 pub fn complete(rt: &HostRuntime, options: Options) -> Options
     ensures { (result.page ≡ options.page) × (result.helpers ≡ options.helpers) }
 {
-    if options.page_next {
-        return wronged(rt, options, b"the page size is missing behind ", b"--page");
+    match options.next {
+        Next::Any => options,
+        Next::Page => wronged(rt, options, b"the page size is missing behind ", b"--page"),
+        Next::Helper => wronged(rt, options, b"the helper is missing behind ", b"--helper"),
     }
-    if options.helper_next {
-        return wronged(rt, options, b"the helper is missing behind ", b"--helper");
-    }
-    options
 }
 
 // What holds where no word is said.
@@ -291,8 +283,10 @@ pub fn unasked(program: Program) -> Options
 {
     Options {
         program,
-        use_mbuff: false,
-        update_data_ptr: false,
+        flags: Flags {
+            use_mbuff: false,
+            update_data_ptr: false,
+        },
         mode: Mode {
             standard: false,
             compact: false,
@@ -302,8 +296,7 @@ pub fn unasked(program: Program) -> Options
         helpers: 0,
         help: false,
         wrong: false,
-        page_next: false,
-        helper_next: false,
+        next: Next::Any,
     }
 }
 
@@ -320,10 +313,8 @@ pub fn read_options(
 {
     let count = streams::word_count(rt);
     let mut options = unasked(program);
-    let mut i = from;
-    while i < count {
+    for i in from..count {
         options = with_argument(rt, options, i, ids, addresses);
-        i += 1;
     }
     complete(rt, options)
 }

@@ -5,7 +5,7 @@ ghost use Rattle.listing_options.specs.declared.place.Base.TheVariants.{Unclear}
 ghost use Rattle.listing_options.specs.Place.{base_in, is_help, asked_by, Asked};
 
 use crate::options::{Program, SENTENCE, WORD, complain};
-use listing_arguments::{Number, Word, base_of, word_of};
+use listing_arguments::{Word, base_of, word_of};
 use text::form::put_form;
 
 #[derive(Clone, Copy)]
@@ -42,8 +42,8 @@ fn base_in(rt: &HostRuntime, program: Program, word: &[u8]) -> Base
     ensures { result ≡ base_in (given word) }
 {
     match base_of(word) {
-        Number::Is(base) => Base::At(base),
-        Number::Not => unclear(
+        Some(base) => Base::At(base),
+        None => unclear(
             rt,
             program,
             b"the base address is not a hexadecimal number below 2^64: ",
@@ -55,17 +55,7 @@ fn base_in(rt: &HostRuntime, program: Program, word: &[u8]) -> Base
 fn is_help(word: Word) -> bool
     ensures { result ≡ is_help word }
 {
-    match word {
-        Word::Mbuff => false,
-        Word::UpdateDataPtr => false,
-        Word::Standard => false,
-        Word::Compact => false,
-        Word::PageSize => false,
-        Word::HelperNext => false,
-        Word::Help => true,
-        Word::File => false,
-        Word::Unknown => false,
-    }
+    word == Word::Help
 }
 
 fn asked_by(rt: &HostRuntime, program: Program, word: &[u8]) -> Base

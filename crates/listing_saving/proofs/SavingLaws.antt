@@ -4,6 +4,7 @@ use mathlib.Core.Bool.{Bool, true, false, not, ◌&&◌}
 use mathlib.Core.List.{List, [], ◌∷◌}
 use Prim.Native.Nat.{ℕ, ◌+◌, ◌/◌, ◌≤◌}
 use native.Mathlib.Omega.{arith}
+use Rattle.std.specs.Prelude.{Ok, Err}
 use lib.Dec.{ltb, eqb}
 use lib.ListN.{length}
 use borrow.Author.Tests.{ltb-false, eqb-true, eqb-false}
@@ -19,9 +20,7 @@ use Rattle.jit.specs.Modes.{in_mode, asked_in}
 use Rattle.jit.specs.Compact.{plainly, compactly, Keeps}
 use Rattle.jit.proofs.CompactLaws.{compact}
 use Rattle.jit_translate.specs.Lent.{sized}
-use Rattle.jit_translate.specs.Translated.{answer_of}
-use Rattle.jit_translate.specs.declared.translate.Answer.{Answer}
-use Rattle.jit_translate.specs.declared.translate.Answer.TheVariants.{Accepted, Refused}
+use Rattle.jit_translate.specs.Translated.{Answer, answer_of}
 use Rattle.text.specs.Text.{Says}
 use Rattle.text.proofs.SaysLaws.{sets-out, then}
 use Rattle.listing_saving.specs.Saving.{turned, is_said, listed, entries, roomy}
@@ -40,7 +39,7 @@ and-false false = refl
 enough : (n : ℕ) → n ≤ longest_program → short_table (n / 8) entries entries entries entries entries ≡ false
 enough n h = rw (leb-false entries (n / 8) (omega arith))
 
-no_line : (compact : Bool) → is_said compact (Refused TableTooShort) ≡ true → ⊥
+no_line : (compact : Bool) → is_said compact (Err TableTooShort) ≡ true → ⊥
 no_line compact e = let z : false ≡ true = sym (and-false (not compact)) ∙ e in let w : ◌≡◌ {A = ℕ} 0 1 = cc in omega arith
 
 skip : {A : Type 0} (a b c d d' : Bool) (p q r s o : A) → (c ≡ false → d' ≡ false) → (a ≡ false → b ≡ false → c ≡ false → d ≡ true → ⊥)
@@ -64,18 +63,18 @@ tables-do-not-matter x said =
 
 -- With the flag off what is accepted is accepted with it, in no more bytes: below the totals no refusal is said, and no difference is cut to 0.
 abbrev NoLonger : ℕ → Answer → Type 0
-NoLonger n (Accepted m k) = m ≤ n
-NoLonger n (Refused r) = ⊥
+NoLonger n (Ok a) = a.length ≤ n
+NoLonger n (Err r) = ⊥
 
 abbrev bytes_of : Answer → ℕ
-bytes_of (Accepted n j) = n + 1
-bytes_of (Refused r) = 0
+bytes_of (Ok a) = a.length + 1
+bytes_of (Err r) = 0
 
 keeps-no-longer : (o : Outcome) (code targets : List ℕ) → Keeps code targets o → NoLonger (length code) (answer_of o)
 keeps-no-longer (no r) code targets h = absurd h
 keeps-no-longer (yes c l f t) code targets h = h.0
 
-pub fits-with-it : (x : Inputs) (n j : ℕ) → answer_of (translation_of (plainly x)) ≡ Accepted n j → NoLonger n (answer_of (translation_of (compactly x)))
+pub fits-with-it : (x : Inputs) (n j : ℕ) → answer_of (translation_of (plainly x)) ≡ Ok (record { length = n; jumps = j }) → NoLonger n (answer_of (translation_of (compactly x)))
 fits-with-it x n j e = by (translation_of (plainly x)) refl
   where
     by : (o : Outcome) → translation_of (plainly x) ≡ o → NoLonger n (answer_of (translation_of (compactly x)))
@@ -85,7 +84,7 @@ fits-with-it x n j e = by (translation_of (plainly x)) refl
         rw (← n-is) (keeps-no-longer (translation_of (compactly x)) c t (compact.accepts x c l f t g))
 
 -- With the flag on, what is accepted and would not be without it would be refused for want of room.
-pub only-for-room : (x : Inputs) (n j : ℕ) (r : Refusal) → answer_of (translation_of (compactly x)) ≡ Accepted n j
+pub only-for-room : (x : Inputs) (n j : ℕ) (r : Refusal) → answer_of (translation_of (compactly x)) ≡ Ok (record { length = n; jumps = j })
     → translation_of (plainly x) ≡ no r → number_of r ≡ 13
 only-for-room x n j r e f = by (eqb (number_of r) 13) refl
   where

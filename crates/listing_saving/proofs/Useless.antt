@@ -4,11 +4,11 @@ use mathlib.Core.Bool.{true, false}
 use mathlib.Core.List.{List}
 use Prim.Native.Nat.{ℕ}
 use native.Mathlib.Omega.{arith}
+use Rattle.std.specs.Prelude.{Err}
 use lib.ListN.{length, get_or}
 use Rattle.jit.specs.declared.Mode.{Mode}
 use Rattle.jit.specs.declared.Refusal.TheVariants.{TableTooShort, NoRoom}
 use Rattle.jit.specs.Translation.{at}
-use Rattle.jit_translate.specs.declared.translate.Answer.TheVariants.{Refused}
 use Rattle.text.specs.Text.{ascii}
 use Rattle.text.specs.Numerals.{decimal}
 use Rattle.listing_saving.specs.Saving.{turned, saved_line, way_of, is_said}
@@ -32,10 +32,10 @@ unfolding way_of
 ways-exchanged e = omega (arith, ap (λ (t : List ℕ). length t) e)
 
 -- is_said: a line below a refusal that is not for want of room; none below one that is
-pub said-of-a-table : is_said false (Refused TableTooShort) ≡ true → ⊥
+pub said-of-a-table : is_said false (Err TableTooShort) ≡ true → ⊥
 said-of-a-table e = let z : ◌≡◌ {A = ℕ} 0 1 = cc in omega arith
 
-pub no-room-unsaid : is_said false (Refused (NoRoom (at 96))) ≡ false → ⊥
+pub no-room-unsaid : is_said false (Err (NoRoom (at 96))) ≡ false → ⊥
 no-room-unsaid e = let z : ◌≡◌ {A = ℕ} 0 1 = cc in omega arith
 
 -- other_answer: asked in the same mode again; in standard mode too

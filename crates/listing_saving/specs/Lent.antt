@@ -5,8 +5,7 @@ use Rattle.jit.specs.declared.Flags.{Flags}
 use Rattle.jit.specs.declared.Mode.{Mode}
 use Rattle.jit.specs.Lent.{filter_of}
 use Rattle.jit.specs.Translation.{translation_of}
-use Rattle.jit_translate.specs.Translated.{answer_of}
-use Rattle.jit_translate.specs.declared.translate.Answer.{Answer}
+use Rattle.jit_translate.specs.Translated.{Answer, answer_of}
 use Rattle.text.specs.Lent.{Says, given}
 use Rattle.listing_saving.specs.Saving as S
 use Rattle.listing_saving.specs.Saving.{turned, roomy}

@@ -1,5 +1,5 @@
 -- What the flag `compact` saves, in words: a line below a listing's totals, and below the reason of a program for which there is no room.
-use Rattle.std.specs.Prelude.{Bool, true, not, ◌&&◌, List, [], ◌∷◌, ◌++◌, ℕ, ◌+◌, ◌-◌, eqb}
+use Rattle.std.specs.Prelude.{Bool, true, not, ◌&&◌, List, [], ◌∷◌, ◌++◌, ℕ, ◌+◌, ◌-◌, eqb, Ok, Err}
 use Rattle.base.specs.Pick.{pick}
 use Rattle.jit.specs.declared.Flags.{Flags}
 use Rattle.jit.specs.declared.Mode.{Mode}
@@ -8,8 +8,7 @@ use Rattle.jit.specs.Limits.{most_slots}
 use Rattle.jit.specs.Refusals.{number_of, slot_of}
 use Rattle.jit.specs.Translation.{Filter, Inputs}
 use Rattle.jit_translate.specs.Lent.{sized}
-use Rattle.jit_translate.specs.declared.translate.Answer.{Answer}
-use Rattle.jit_translate.specs.declared.translate.Answer.TheVariants.{Accepted, Refused}
+use Rattle.jit_translate.specs.Translated.{Answer}
 use Rattle.text.specs.Text.{ascii}
 use Rattle.text.specs.Forms.{formed}
 use Rattle.refusals_text.specs.Sentences.{sentence_of}
@@ -30,8 +29,8 @@ unfoldable pub fits_line : ℕ → List ℕ
 fits_line other = formed (ascii "with --compact it fits: the code has # bytes") (other ∷ [])
 
 abbrev pub accepted_line : Bool → (own : Answer) → (other : ℕ) → List ℕ
-accepted_line compact (Accepted n j) other = saved_line compact n other
-accepted_line compact (Refused r) other = fits_line other
+accepted_line compact (Ok a) other = saved_line compact a.length other
+accepted_line compact (Err r) other = fits_line other
 
 -- with the flag the other way it is refused
 unfoldable pub way_of : Bool → List ℕ
@@ -42,13 +41,13 @@ refused_line prog compact r = way_of compact ++ sentence_of prog (number_of r) (
 
 -- the line by both answers, as it was asked for and with the flag the other way
 abbrev pub line_of : (prog : List ℕ) → Bool → (own other : Answer) → List ℕ
-line_of prog compact own (Accepted m k) = accepted_line compact own m
-line_of prog compact own (Refused r) = refused_line prog compact r
+line_of prog compact own (Ok a) = accepted_line compact own a.length
+line_of prog compact own (Err r) = refused_line prog compact r
 
 -- There is one where the program is accepted, and where it has no room (13) and the flag is off: any other refusal stays as it is.
 abbrev pub is_said : Bool → (own : Answer) → Bool
-is_said compact (Accepted n j) = true
-is_said compact (Refused r) = not compact && eqb (number_of r) 13
+is_said compact (Ok a) = true
+is_said compact (Err r) = not compact && eqb (number_of r) 13
 
 abbrev pub saving_of : (prog : List ℕ) → Bool → (own other : Answer) → List ℕ
 saving_of prog compact own other = pick (is_said compact own) (line_of prog compact own other) []

@@ -9,7 +9,7 @@ ghost use Rattle.listing_saving.specs.Saving.{saved_line, fits_line, accepted_li
 ghost use Rattle.listing_saving.specs.Lent.{other_answer, SaysSaving, ListsSaving};
 
 use jit::{Flags, LONGEST_PAGE, MOST_SLOTS, Mode, Refusal};
-use jit_translate::translate::{Answer, translate};
+use jit_translate::translate::{Accepted, translate};
 use listing_lines::write_line;
 use streams::Sink;
 use text::form::put_form;
@@ -32,13 +32,13 @@ fn other_answer(
     ids: &[u32],
     addresses: &[u64],
     size: usize,
-) -> Answer
+) -> Result<Accepted, Refusal>
     requires { size ≤ longest_page + 1 }
     ensures { result ≡ other_answer prog flags mode ids addresses size }
 {
     let other = Mode {
-        standard: mode.standard,
         compact: !mode.compact,
+        ..mode
     };
     let mut page = [0u8; PAGE];
     let mut locations = [0u32; TABLE];
@@ -61,16 +61,6 @@ fn other_answer(
     )
 }
 
-// How much longer; nothing, where it is not.
-fn less(long: usize, short: usize) -> u64
-    ensures { result ≡ long - short }
-{
-    if long < short {
-        return 0;
-    }
-    (long - short) as u64
-}
-
 // `own` bytes of code as it was asked for, `other` with the flag the other way.
 fn put_saved(line: &mut [u8], compact: bool, own: usize, other: usize) -> usize
     ensures { Says line 0 result (saved_line compact own other) }
@@ -81,14 +71,14 @@ fn put_saved(line: &mut [u8], compact: bool, own: usize, other: usize) -> usize
             line,
             0,
             b"--compact saves # bytes: without it the code has #",
-            &[less(other, own), length],
+            &[other.saturating_sub(own) as u64, length],
         );
     }
     put_form(
         line,
         0,
         b"--compact would save # bytes: with it the code has #",
-        &[less(own, other), length],
+        &[own.saturating_sub(other) as u64, length],
     )
 }
 
@@ -103,12 +93,17 @@ fn put_fits(line: &mut [u8], other: usize) -> usize
     )
 }
 
-fn put_accepted(line: &mut [u8], compact: bool, own: Answer, other: usize) -> usize
+fn put_accepted(
+    line: &mut [u8],
+    compact: bool,
+    own: Result<Accepted, Refusal>,
+    other: usize,
+) -> usize
     ensures { Says line 0 result (accepted_line compact own other) }
 {
     match own {
-        Answer::Refused(_) => put_fits(line, other),
-        Answer::Accepted { length, jumps: _ } => put_saved(line, compact, length, other),
+        Ok(accepted) => put_saved(line, compact, accepted.length, other),
+        Err(_) => put_fits(line, other),
     }
 }
 
@@ -132,25 +127,28 @@ fn put_refused(line: &mut [u8], prog: &[u8], compact: bool, refusal: Refusal) ->
     put_text(line, next, &words[..end])
 }
 
-fn put_line(line: &mut [u8], prog: &[u8], compact: bool, own: Answer, other: Answer) -> usize
+fn put_line(
+    line: &mut [u8],
+    prog: &[u8],
+    compact: bool,
+    own: Result<Accepted, Refusal>,
+    other: Result<Accepted, Refusal>,
+) -> usize
     ensures { Says line 0 result (line_of (given prog) compact own other) }
 {
     match other {
-        Answer::Refused(refusal) => put_refused(line, prog, compact, refusal),
-        Answer::Accepted { length, jumps: _ } => put_accepted(line, compact, own, length),
+        Ok(accepted) => put_accepted(line, compact, own, accepted.length),
+        Err(refusal) => put_refused(line, prog, compact, refusal),
     }
 }
 
 // Any refusal but for want of room (13) stays with the flag, and none goes away without it.
-fn is_said(compact: bool, own: Answer) -> bool
+fn is_said(compact: bool, own: Result<Accepted, Refusal>) -> bool
     ensures { result ≡ is_said compact own }
 {
     match own {
-        Answer::Accepted {
-            length: _,
-            jumps: _,
-        } => true,
-        Answer::Refused(refusal) => {
+        Ok(_) => true,
+        Err(refusal) => {
             if compact {
                 return false;
             }
@@ -160,7 +158,7 @@ fn is_said(compact: bool, own: Answer) -> bool
 }
 
 // The line at the start of `line`, without its newline; nothing where nothing is said. `own` is the answer of what was asked for, in a page
-// of `size` bytes.
+// of `size` bytes. The parameters stay those of `translate`, as `SaysSaving` and `ListsSaving` name them.
 pub fn put_saving(
     line: &mut [u8],
     prog: &[u8],
@@ -169,7 +167,7 @@ pub fn put_saving(
     ids: &[u32],
     addresses: &[u64],
     size: usize,
-    own: Answer,
+    own: Result<Accepted, Refusal>,
 ) -> usize
     requires { size ≤ longest_page + 1 }
     ensures { SaysSaving line prog flags mode ids addresses size own result }
@@ -183,13 +181,10 @@ pub fn put_saving(
 }
 
 // It stands where what it stands below does: the totals, or the reason of a refusal.
-fn place_of<'a>(own: Answer, output: &'a Sink, reason: &'a Sink) -> &'a Sink {
+fn place_of<'a>(own: Result<Accepted, Refusal>, output: &'a Sink, reason: &'a Sink) -> &'a Sink {
     match own {
-        Answer::Accepted {
-            length: _,
-            jumps: _,
-        } => output,
-        Answer::Refused(_) => reason,
+        Ok(_) => output,
+        Err(_) => reason,
     }
 }
 
@@ -203,7 +198,7 @@ pub fn list_saving(
     ids: &[u32],
     addresses: &[u64],
     size: usize,
-    own: Answer,
+    own: Result<Accepted, Refusal>,
     reason: &Sink,
 ) -> usize
     requires { size ≤ longest_page + 1 }

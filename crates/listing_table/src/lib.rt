@@ -9,10 +9,10 @@ ghost use Rattle.jit_translate.specs.Lent.{asked, Translated, Named};
 mod table;
 
 use jit::{EPILOGUE_SIZE, Flags, Mode, Refusal};
-use jit_translate::translate::{Answer, translate};
+use jit_translate::translate::{Accepted, translate};
 use listing_lines::LINE;
 use streams::Sink;
-use table::Totals;
+use table::{Page, Totals};
 
 // Refusals below 6 are of no slot.
 fn list_until(rt: &HostRuntime, prog: &[u8], number: u8, slot: usize) {
@@ -31,36 +31,8 @@ fn list_refused(rt: &HostRuntime, prog: &[u8], refusal: Refusal, reason: &Sink) 
     listing_lines::write_line(reason, &mut line, end);
 }
 
-fn exit_of(length: usize) -> usize {
-    if length < EPILOGUE_SIZE {
-        return 0;
-    }
-    length - EPILOGUE_SIZE
-}
-
-fn list_accepted(
-    rt: &HostRuntime,
-    prog: &[u8],
-    page: &[u8],
-    locations: &[u32],
-    targets: &[u32],
-    kinds: &[u32],
-    makers: &[u32],
-    length: usize,
-    jumps: usize,
-) {
-    let totals = Totals {
-        slots: prog.len() / 8,
-        length: length,
-        jumps: jumps,
-        page: page.len(),
-        exit: exit_of(length),
-    };
-    table::list_page(rt, prog, page, locations, targets, kinds, makers, totals);
-}
-
 // The program, translated into what is lent, and the table of it. The answer, and what is left in what is lent, are the translator's; a
-// refusal's sentence goes to `reason`.
+// refusal's sentence goes to `reason`. The parameters stay those of `translate`, which `asked` of the clauses names one by one.
 pub fn list_filter(
     rt: &HostRuntime,
     prog: &[u8],
@@ -75,7 +47,7 @@ pub fn list_filter(
     kinds: &mut [u32],
     makers: &mut [u32],
     reason: &Sink,
-) -> Answer
+) -> Result<Accepted, Refusal>
     ensures translated { Translated (asked prog flags mode ids addresses page locations fields targets kinds makers) page locations fields targets result }
     ensures named { Named (asked prog flags mode ids addresses page locations fields targets kinds makers) kinds makers }
 {
@@ -83,12 +55,25 @@ pub fn list_filter(
         prog, flags, mode, ids, addresses, page, locations, fields, targets, kinds, makers,
     );
     match answer {
-        Answer::Refused(refusal) => list_refused(rt, prog, refusal, reason),
-        Answer::Accepted { length, jumps } => {
-            list_accepted(
-                rt, prog, page, locations, targets, kinds, makers, length, jumps,
-            )
+        Ok(Accepted { length, jumps }) => {
+            let totals = Totals {
+                slots: prog.len() / 8,
+                length,
+                jumps,
+                page: page.len(),
+                exit: length.saturating_sub(EPILOGUE_SIZE),
+            };
+            let listed = Page {
+                code: page,
+                locations,
+                targets,
+                kinds,
+                makers,
+                totals,
+            };
+            listed.list(rt, prog);
         }
+        Err(refusal) => list_refused(rt, prog, refusal, reason),
     }
     answer
 }

@@ -7,7 +7,7 @@ use listing_lines::{BYTECODE, LINE, finish};
 use text::form::put_form;
 use text::number::put_hex_byte;
 use text::text::{put_byte, put_padding, put_text};
-use x86_instructions::{Instruction, Read};
+use x86_instructions::Instruction;
 use x86_reader::decode::decode;
 use x86_text::instruction::put_instruction;
 
@@ -31,28 +31,27 @@ pub struct Totals {
     pub exit: usize,
 }
 
-fn wide(x: u32) -> usize {
-    x as usize
+// An accepted program's page, the tables of it, and what was answered.
+#[derive(Clone, Copy)]
+pub struct Page<'a> {
+    pub code: &'a [u8],
+    pub locations: &'a [u32],
+    pub targets: &'a [u32],
+    pub kinds: &'a [u32],
+    pub makers: &'a [u32],
+    pub totals: Totals,
 }
 
 // An entry of a table, or 0 behind its end.
-fn entry(table: &[u32], k: usize) -> usize {
-    if k < table.len() {
-        return wide(table[k]);
-    }
-    0
+fn entry(table: &[u32], k: usize) -> u32 {
+    table.get(k).copied().unwrap_or(0)
 }
 
 fn put_bytes(line: &mut [u8], at: usize, code: &[u8], from: usize, to: usize) -> usize {
     let mut next = at;
-    let mut k = from;
-    while k < to {
-        if code.len() <= k {
-            return next;
-        }
-        next = put_hex_byte(line, next, code[k]);
+    for byte in code.iter().take(to).skip(from) {
+        next = put_hex_byte(line, next, *byte);
         next = put_byte(line, next, b' ');
-        k += 1;
     }
     next
 }
@@ -81,11 +80,11 @@ fn list_known(
 // The instruction at a place, as the reader reads it; the answer is the place behind it.
 fn list_instruction(rt: &HostRuntime, line: &mut [u8], code: &[u8], at: usize) -> usize {
     match decode(code, at) {
-        Read::Got(i, end) => {
+        Some((i, end)) => {
             list_known(rt, line, code, at, i, end);
             end
         }
-        Read::Bad => {
+        None => {
             let next = put_position(line, code, at, at);
             let next = put_text(line, next, b"(no instruction that is known)");
             finish(rt, line, next);
@@ -105,84 +104,118 @@ fn list_code(rt: &HostRuntime, line: &mut [u8], code: &[u8], from: usize, to: us
     }
 }
 
-// Where the next slot that has a location begins, or the epilogue.
-fn end_of(locations: &[u32], totals: Totals, slot: usize) -> usize {
-    let slots = totals.slots;
-    let mut k = slot;
-    while k < slots {
-        k += 1;
-        let location = entry(locations, k);
-        if 0 < location {
-            return location;
-        }
+impl Page<'_> {
+    // Where a slot's code begins; 0 where it has none.
+    fn location(&self, slot: usize) -> usize {
+        entry(self.locations, slot) as usize
     }
-    totals.exit
-}
 
-// The first jump of a maker, or `jumps` where it has none.
-fn jump_of(makers: &[u32], jumps: usize, maker: usize) -> usize {
-    let mut j = 0;
-    while j < jumps {
-        if entry(makers, j) == maker {
-            return j;
+    // Where the next slot that has a location begins, or the epilogue.
+    fn end_of(&self, slot: usize) -> usize {
+        for k in slot..self.totals.slots {
+            let location = self.location(k + 1);
+            if 0 < location {
+                return location;
+            }
         }
-        j += 1;
+        self.totals.exit
     }
-    jumps
-}
 
-fn put_destination(
-    line: &mut [u8],
-    at: usize,
-    locations: &[u32],
-    target: usize,
-    exit: usize,
-) -> usize {
-    let next = put_padding(line, at, DESTINATION);
-    if target == wide(ANCHOR) {
-        return put_form(line, next, b" -> the exit at 0x$", &[exit as u64]);
+    // The first jump of a maker, if it has one.
+    fn jump_of(&self, maker: usize) -> Option<usize> {
+        for j in 0..self.totals.jumps {
+            if entry(self.makers, j) as usize == maker {
+                return Some(j);
+            }
+        }
+        None
     }
-    let location = entry(locations, target);
-    put_form(
-        line,
-        next,
-        b" -> slot # at 0x$",
-        &[target as u64, location as u64],
-    )
+
+    fn put_destination(&self, line: &mut [u8], at: usize, target: u32) -> usize {
+        let next = put_padding(line, at, DESTINATION);
+        if target == ANCHOR {
+            return put_form(
+                line,
+                next,
+                b" -> the exit at 0x$",
+                &[self.totals.exit as u64],
+            );
+        }
+        let location = self.location(target as usize);
+        put_form(
+            line,
+            next,
+            b" -> slot # at 0x$",
+            &[target as u64, location as u64],
+        )
+    }
+
+    // Where the jump of a maker goes, and its kind, if it has one.
+    fn put_jump(&self, line: &mut [u8], at: usize, maker: usize) -> usize {
+        let Some(jump) = self.jump_of(maker) else {
+            return at;
+        };
+        let next = self.put_destination(line, at, entry(self.targets, jump));
+        put_kind(line, next, entry(self.kinds, jump))
+    }
+
+    fn list_slot(&self, rt: &HostRuntime, line: &mut [u8], prog: &[u8], slot: usize) {
+        let from = self.location(slot);
+        if from == 0 {
+            list_second_half(rt, line, slot);
+            return;
+        }
+        let next = put_slot_line(line, prog, slot, from);
+        let next = self.put_jump(line, next, slot);
+        finish(rt, line, next);
+        list_code(rt, line, self.code, from, self.end_of(slot));
+    }
+
+    // Its jump is no slot's: the maker is the number behind the last.
+    fn list_prologue(&self, rt: &HostRuntime, line: &mut [u8]) {
+        let slots = self.totals.slots;
+        let to = if slots == 0 {
+            self.totals.exit
+        } else {
+            self.location(0)
+        };
+        let next = put_frame_line(line, b"prologue", 0);
+        let next = self.put_jump(line, next, slots);
+        finish(rt, line, next);
+        list_code(rt, line, self.code, 0, to);
+    }
+
+    fn list_epilogue(&self, rt: &HostRuntime, line: &mut [u8]) {
+        let next = put_frame_line(line, b"epilogue", self.totals.exit);
+        finish(rt, line, next);
+        list_code(rt, line, self.code, self.totals.exit, self.totals.length);
+    }
+
+    // The whole page of an accepted program; the answer is how many slots are listed.
+    pub fn list(&self, rt: &HostRuntime, prog: &[u8]) -> usize
+        ensures { result ≡ self.now.totals.slots }
+    {
+        let mut line = [0u8; LINE];
+        self.list_prologue(rt, &mut line);
+        let mut listed = 0;
+        for slot in 0..self.totals.slots {
+            self.list_slot(rt, &mut line, prog, slot);
+            listed += 1;
+        }
+        self.list_epilogue(rt, &mut line);
+        list_totals(rt, &mut line, self.totals);
+        listed
+    }
 }
 
 // The translator writes no fourth kind; if it did, the line would not call it one of the three.
-fn put_kind(line: &mut [u8], at: usize, kind: usize) -> usize {
-    if kind == wide(CONDITIONAL) {
-        return put_text(line, at, b", conditional");
+fn put_kind(line: &mut [u8], at: usize, kind: u32) -> usize {
+    match kind {
+        CONDITIONAL => put_text(line, at, b", conditional"),
+        PLAIN => put_text(line, at, b", plain"),
+        LOCAL_CALL => put_text(line, at, b", local call"),
+        _ => put_text(line, at, b", of no known kind"),
     }
-    if kind == wide(PLAIN) {
-        return put_text(line, at, b", plain");
-    }
-    if kind == wide(LOCAL_CALL) {
-        return put_text(line, at, b", local call");
-    }
-    put_text(line, at, b", of no known kind")
-}
-
-// Where the jump of a maker goes, and its kind, if it has one.
-fn put_jump(
-    line: &mut [u8],
-    at: usize,
-    locations: &[u32],
-    targets: &[u32],
-    kinds: &[u32],
-    makers: &[u32],
-    totals: Totals,
-    maker: usize,
-) -> usize {
-    let jumps = totals.jumps;
-    let j = jump_of(makers, jumps, maker);
-    if jumps <= j {
-        return at;
-    }
-    let next = put_destination(line, at, locations, entry(targets, j), totals.exit);
-    put_kind(line, next, entry(kinds, j))
 }
 
 fn put_slot_line(line: &mut [u8], prog: &[u8], slot: usize, location: usize) -> usize {
@@ -200,66 +233,10 @@ fn list_second_half(rt: &HostRuntime, line: &mut [u8], slot: usize) {
     finish(rt, line, next);
 }
 
-fn list_slot(
-    rt: &HostRuntime,
-    line: &mut [u8],
-    prog: &[u8],
-    code: &[u8],
-    locations: &[u32],
-    targets: &[u32],
-    kinds: &[u32],
-    makers: &[u32],
-    totals: Totals,
-    slot: usize,
-) {
-    let from = entry(locations, slot);
-    if from == 0 {
-        list_second_half(rt, line, slot);
-        return;
-    }
-    let to = end_of(locations, totals, slot);
-    let next = put_slot_line(line, prog, slot, from);
-    let next = put_jump(line, next, locations, targets, kinds, makers, totals, slot);
-    finish(rt, line, next);
-    list_code(rt, line, code, from, to);
-}
-
-fn first_location(locations: &[u32], totals: Totals) -> usize {
-    if totals.slots == 0 {
-        return totals.exit;
-    }
-    entry(locations, 0)
-}
-
 fn put_frame_line(line: &mut [u8], name: &[u8], location: usize) -> usize {
     let next = put_text(line, 0, name);
     let next = put_padding(line, next, AT);
     put_form(line, next, b"at 0x$", &[location as u64])
-}
-
-// Its jump is no slot's: the maker is the number behind the last.
-fn list_prologue(
-    rt: &HostRuntime,
-    line: &mut [u8],
-    code: &[u8],
-    locations: &[u32],
-    targets: &[u32],
-    kinds: &[u32],
-    makers: &[u32],
-    totals: Totals,
-) {
-    let to = first_location(locations, totals);
-    let slots = totals.slots;
-    let next = put_frame_line(line, b"prologue", 0);
-    let next = put_jump(line, next, locations, targets, kinds, makers, totals, slots);
-    finish(rt, line, next);
-    list_code(rt, line, code, 0, to);
-}
-
-fn list_epilogue(rt: &HostRuntime, line: &mut [u8], code: &[u8], totals: Totals) {
-    let next = put_frame_line(line, b"epilogue", totals.exit);
-    finish(rt, line, next);
-    list_code(rt, line, code, totals.exit, totals.length);
 }
 
 fn list_totals(rt: &HostRuntime, line: &mut [u8], totals: Totals) {
@@ -275,53 +252,4 @@ fn list_totals(rt: &HostRuntime, line: &mut [u8], totals: Totals) {
         ],
     );
     finish(rt, line, next);
-}
-
-fn list_all_slots(
-    rt: &HostRuntime,
-    line: &mut [u8],
-    prog: &[u8],
-    code: &[u8],
-    locations: &[u32],
-    targets: &[u32],
-    kinds: &[u32],
-    makers: &[u32],
-    totals: Totals,
-) -> usize
-    ensures { result ≡ totals.slots }
-{
-    let slots = totals.slots;
-    let mut slot = 0;
-    while slot < slots {
-        list_slot(
-            rt, line, prog, code, locations, targets, kinds, makers, totals, slot,
-        );
-        slot += 1;
-    }
-    slot
-}
-
-// The whole page of an accepted program; the answer is how many slots are listed.
-pub fn list_page(
-    rt: &HostRuntime,
-    prog: &[u8],
-    code: &[u8],
-    locations: &[u32],
-    targets: &[u32],
-    kinds: &[u32],
-    makers: &[u32],
-    totals: Totals,
-) -> usize
-    ensures { result ≡ totals.slots }
-{
-    let mut line = [0u8; LINE];
-    list_prologue(
-        rt, &mut line, code, locations, targets, kinds, makers, totals,
-    );
-    let listed = list_all_slots(
-        rt, &mut line, prog, code, locations, targets, kinds, makers, totals,
-    );
-    list_epilogue(rt, &mut line, code, totals);
-    list_totals(rt, &mut line, totals);
-    listed
 }

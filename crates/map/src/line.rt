@@ -1,15 +1,13 @@
 // A line of a page's map: how long its text is, and the text, written where there is room for it.
-ghost use Rattle.std.specs.Prelude.{◌≡◌, [], ◌∷◌, ◌≤◌, length};
-ghost use Rattle.text.specs.Lent.{Says, HasRoom, IsPairs};
+ghost use Rattle.std.specs.Prelude.{◌≡◌, ◌≤◌, length};
+ghost use Rattle.text.specs.Lent.{Says, HasRoom, given};
 ghost use Rattle.text.specs.Numerals.{hex};
 ghost use Rattle.code.specs.Lines.{line};
-ghost use Rattle.code.specs.declared.Piece.TheVariants.{Slot as Piece-as-Slot};
 ghost use Rattle.map.specs.MapText.{name_of, text_of};
 ghost use Rattle.map.specs.Room.{any_line};
 
-use base::Slot;
 use code::Piece;
-use text::digits;
+use text::digits::{Pairs, count_decimal, count_hex};
 
 // `prologue` and `epilogue`, and `slot_`.
 const FRAME_NAME: usize = 8;
@@ -20,9 +18,8 @@ fn name_length(piece: Piece) -> usize
     ensures { (result ≡ length (name_of piece)) × (result ≤ 25) }
 {
     match piece {
-        Piece::Prologue => FRAME_NAME,
-        Piece::Slot(slot) => SLOT_NAME + digits::count_decimal(slot.number as u64),
-        Piece::Epilogue => FRAME_NAME,
+        Piece::Prologue | Piece::Epilogue => FRAME_NAME,
+        Piece::Slot(slot) => SLOT_NAME + count_decimal(slot.number as u64),
     }
 }
 
@@ -33,37 +30,34 @@ pub fn line_length(start: u64, bytes: u64, piece: Piece) -> usize
     if bytes == 0 {
         return 0;
     }
-    digits::count_hex(start) + digits::count_hex(bytes) + name_length(piece) + 3
+    count_hex(start) + count_hex(bytes) + name_length(piece) + 3
 }
 
-fn put_one(out: &mut [u8], at: usize, x: u8) -> usize
-    requires { HasRoom out at 1 }
-    ensures { Says out at result (x ∷ []) }
+// A text where there is room for all of it. With `copy_from_slice`, which asks at run time which end to begin at, a line takes five
+// instructions more.
+fn put_whole(out: &mut [u8], at: usize, text: &[u8]) -> usize
+    requires { HasRoom out at (length text.now) }
+    ensures { Says out at result (given text) }
 {
-    out[at] = x;
-    at + 1
+    let mut next = at;
+    for &x in text {
+        out[next] = x;
+        next += 1;
+    }
+    next
 }
 
-fn put_slot_name(out: &mut [u8], at: usize, pairs: &[u16; 256], slot: Slot) -> usize
-    requires { IsPairs pairs × HasRoom out at (length (name_of (Piece-as-Slot slot))) }
-    ensures { Says out at result (name_of (Piece-as-Slot slot)) }
-{
-    let s = put_one(out, at, b's');
-    let l = put_one(out, s, b'l');
-    let o = put_one(out, l, b'o');
-    let t = put_one(out, o, b't');
-    let underscore = put_one(out, t, b'_');
-    digits::put_decimal(out, underscore, pairs, slot.number as u64)
-}
-
-fn put_name(out: &mut [u8], at: usize, pairs: &[u16; 256], piece: Piece) -> usize
-    requires { IsPairs pairs × HasRoom out at (length (name_of piece)) }
+fn put_name(out: &mut [u8], at: usize, pairs: &Pairs, piece: Piece) -> usize
+    requires { HasRoom out at (length (name_of piece)) }
     ensures { Says out at result (name_of piece) }
 {
     match piece {
-        Piece::Prologue => text::text::put_text(out, at, b"prologue"),
-        Piece::Slot(slot) => put_slot_name(out, at, pairs, slot),
-        Piece::Epilogue => text::text::put_text(out, at, b"epilogue"),
+        Piece::Prologue => put_whole(out, at, b"prologue"),
+        Piece::Slot(slot) => {
+            let named = put_whole(out, at, b"slot_");
+            pairs.put_decimal(out, named, slot.number as u64)
+        }
+        Piece::Epilogue => put_whole(out, at, b"epilogue"),
     }
 }
 
@@ -71,22 +65,23 @@ fn put_name(out: &mut [u8], at: usize, pairs: &[u16; 256], piece: Piece) -> usiz
 pub fn put_line(
     out: &mut [u8],
     at: usize,
-    pairs: &[u16; 256],
+    pairs: &Pairs,
     digits: usize,
     start: u64,
     bytes: u64,
     piece: Piece,
 ) -> usize
-    requires { IsPairs pairs × ((digits ≡ length (hex start)) × HasRoom out at (length (text_of (line start bytes piece)))) }
+    requires digits { digits ≡ length (hex start) }
+    requires has_room { HasRoom out at (length (text_of (line start bytes piece))) }
     ensures { Says out at result (text_of (line start bytes piece)) }
 {
     if bytes == 0 {
         return at;
     }
-    let started = digits::put_hex_counted(out, at, pairs, digits, start);
-    let size = put_one(out, started, b' ');
-    let sized = digits::put_hex(out, size, pairs, bytes);
-    let name = put_one(out, sized, b' ');
+    let started = pairs.put_hex_counted(out, at, digits, start);
+    let size = put_whole(out, started, b" ");
+    let sized = pairs.put_hex(out, size, bytes);
+    let name = put_whole(out, sized, b" ");
     let named = put_name(out, name, pairs, piece);
-    put_one(out, named, b'\n')
+    put_whole(out, named, b"\n")
 }

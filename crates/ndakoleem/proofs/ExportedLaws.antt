@@ -5,6 +5,7 @@ use mathlib.Core.Bool.{true}
 use mathlib.Core.List.{List}
 use Prim.Native.Nat.{ℕ, ◌≤◌}
 use native.Mathlib.Omega.{arith}
+use Rattle.std.specs.Prelude.{Ok, Err}
 use lib.ListN.{take}
 use Rattle.jit.specs.declared.Refusal.{Refusal}
 use Rattle.jit.specs.declared.Refusal.TheVariants as refusal
@@ -15,8 +16,7 @@ use Rattle.jit_safety.specs.Demand3.{Given, Begins, Demand3}
 use Rattle.jit_safety.proofs.Useless.{division-raises}
 use Rattle.jit_agrees.specs.Agrees.{Agrees}
 use Rattle.jit_agrees.specs.Follows.{FollowsAll}
-use Rattle.jit_translate.specs.declared.translate.Answer.{Answer}
-use Rattle.jit_translate.specs.declared.translate.Answer.TheVariants.{Accepted, Refused}
+use Rattle.jit_translate.specs.Translated.{Answer}
 use Rattle.jit_theorem.specs.Theorem.{Buffers, locations_of, Translates, Names, Promise}
 use Rattle.jit_theorem.proofs.Proved.{theorem}
 use Rattle.ndakoleem.specs.declared.Translation.{Translation}
@@ -63,8 +63,8 @@ safe {x} {before} {after} h z = rw (h.length_is, h.jumps_are) (by h.answer h.pro
     by : (a : Answer) → Promise x before after a → number_in a ≡ 0
         → Demand3 x (take (length_in a) after.code) (locations_of x after)
         (take (jumps_in a) after.fields) (take (jumps_in a) after.targets) (take (jumps_in a) after.kinds) (take (jumps_in a) after.makers)
-    by (Accepted l j) p e = p.safe l j refl
-    by (Refused q) p e = absurd (omega (arith, numbered q, e))
+    by (Ok a) p e = p.safe a.length a.jumps refl
+    by (Err q) p e = absurd (omega (arith, numbered q, e))
 
 -- What that is there for: no page that is answered with number 0 raises #DE, whatever it is run on.
 pub never-faults : {x : Inputs} {before after : Buffers} {r : Translation} → Exported x before after r → r.number ≡ 0
@@ -79,8 +79,8 @@ agrees {x} {before} {after} h z std = rw h.length_is (by h.answer h.promise (sym
   where
     by : (a : Answer) → Promise x before after a → number_in a ≡ 0
         → Agrees x.filter.program (take (length_in a) after.code) (locations_of x after)
-    by (Accepted l j) p e = p.agrees l j refl std
-    by (Refused q) p e = absurd (omega (arith, numbered q, e))
+    by (Ok a) p e = p.agrees a.length a.jumps refl std
+    by (Err q) p e = absurd (omega (arith, numbered q, e))
 
 -- .. and so along every path of such slots
 pub follows : {x : Inputs} {before after : Buffers} {r : Translation} → Exported x before after r → r.number ≡ 0

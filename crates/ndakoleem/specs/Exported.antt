@@ -2,30 +2,29 @@
 -- crates/jit_theorem/specs/Theorem.antt), of an answer whose four numbers are the struct's. No refusal has number 0, so where the number is
 -- 0 the page that was written is read, lands, stays and returns as `Demand3` says, and in standard mode its slots do as `Agrees` says
 -- (`safe` and `agrees`, proofs/ExportedLaws.antt).
-use Rattle.std.specs.Prelude.{◌≡◌, ℕ}
+use Rattle.std.specs.Prelude.{◌≡◌, ℕ, Ok, Err}
 use Rattle.jit.specs.Refusals.{number_of, slot_of}
 use Rattle.jit.specs.Translation.{Inputs}
-use Rattle.jit_translate.specs.declared.translate.Answer.{Answer}
-use Rattle.jit_translate.specs.declared.translate.Answer.TheVariants.{Accepted, Refused}
+use Rattle.jit_translate.specs.Translated.{Answer}
 use Rattle.jit_theorem.specs.Theorem.{Buffers, Promise}
 use Rattle.ndakoleem.specs.declared.Translation.{Translation}
 
 -- the four numbers of an answer
 abbrev pub number_in : Answer → ℕ
-number_in (Accepted l j) = 0
-number_in (Refused r) = number_of r
+number_in (Ok a) = 0
+number_in (Err r) = number_of r
 
 abbrev pub slot_in : Answer → ℕ
-slot_in (Accepted l j) = 0
-slot_in (Refused r) = slot_of r
+slot_in (Ok a) = 0
+slot_in (Err r) = slot_of r
 
 abbrev pub length_in : Answer → ℕ
-length_in (Accepted l j) = l
-length_in (Refused r) = 0
+length_in (Ok a) = a.length
+length_in (Err r) = 0
 
 abbrev pub jumps_in : Answer → ℕ
-jumps_in (Accepted l j) = j
-jumps_in (Refused r) = 0
+jumps_in (Ok a) = a.jumps
+jumps_in (Err r) = 0
 
 -- THE CONTRACT, for the program, flags, helper lists and buffer lengths x, and what is lent at entry and at exit
 pub record Exported (x : Inputs) (before after : Buffers) (r : Translation) : Type 0 where

@@ -1,5 +1,5 @@
 // The translator and the sentences as C sees them: the static library that `rt lib` writes here. It only hands on what it is given and
-// puts the answer into a struct of four numbers, since an enum does not pass the boundary. The declarations for C are include/ndakoleem.h.
+// puts the answer into a struct of four numbers, since a Result does not pass the boundary. The declarations for C are include/ndakoleem.h.
 
 #![tactic(auto)]
 
@@ -8,7 +8,7 @@ ghost use Rattle.ndakoleem.specs.Lent.{Exported};
 ghost use Rattle.refusals_text.specs.Lent.{Sentence};
 
 use jit::{Flags, Mode};
-use jit_translate::translate::{Answer, translate};
+use jit_translate::translate::translate;
 
 // Accepted: number 0, slot 0, the code's length and the count of jumps. Refused: the number and slot of docs/REFUSALS.md, and 0 for the other two.
 #[repr(C)]
@@ -42,27 +42,24 @@ pub extern "C" fn ndakoleem_translate_4(
         code locations fields targets kinds makers) code locations fields targets kinds makers result }
 {
     let flags = Flags {
-        use_mbuff: use_mbuff,
-        update_data_ptr: update_data_ptr,
+        use_mbuff,
+        update_data_ptr,
     };
-    let mode = Mode {
-        standard: standard,
-        compact: compact,
-    };
+    let mode = Mode { standard, compact };
     match translate(
         program, flags, mode, ids, addresses, code, locations, fields, targets, kinds, makers,
     ) {
-        Answer::Refused(refusal) => Translation {
+        Ok(accepted) => Translation {
+            number: 0,
+            slot: 0,
+            length: accepted.length,
+            jumps: accepted.jumps,
+        },
+        Err(refusal) => Translation {
             number: refusals::number_of(refusal),
             slot: refusals::slot_of(refusal),
             length: 0,
             jumps: 0,
-        },
-        Answer::Accepted { length, jumps } => Translation {
-            number: 0,
-            slot: 0,
-            length: length,
-            jumps: jumps,
         },
     }
 }

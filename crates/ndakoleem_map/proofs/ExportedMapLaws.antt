@@ -3,6 +3,7 @@
 use mathlib.Core.Path.{◌≡◌, ◌∙◌, ap, sym, refl}
 use Prim.Native.Nat.{ℕ, ◌≤◌}
 use native.Mathlib.Omega.{arith}
+use Rattle.std.specs.Prelude.{Ok, Err}
 use lib.ListN.{take}
 use Rattle.code.specs.Code.{size}
 use Rattle.code.specs.Page.{whole}
@@ -14,13 +15,10 @@ use Rattle.jit.specs.Refusals.{number_of as translation_number}
 use Rattle.jit.specs.Translation.{Inputs}
 use Rattle.jit.specs.JumpTables.{page_for}
 use Rattle.jit_safety.specs.Demand3.{Given}
-use Rattle.jit_translate.specs.declared.translate.Answer.TheVariants as translate
-use Rattle.jit_mapping.specs.declared.Answer.{Answer}
-use Rattle.jit_mapping.specs.declared.Answer.TheVariants.{Accepted, Refused}
 use Rattle.jit_mapping.specs.declared.Refusal.{Refusal}
 use Rattle.jit_mapping.specs.declared.Refusal.TheVariants.{Translation, BaseTooHigh, TextTooShort}
 use Rattle.jit_mapping.specs.Refusals.{number_of}
-use Rattle.jit_mapping.specs.Mapped.{Buffers, Mapped}
+use Rattle.jit_mapping.specs.Mapped.{Answer, Buffers, Mapped}
 use Rattle.jit_theorem.specs.Theorem.{Promise}
 use Rattle.jit_theorem.specs.MapTheorem.{page_in, MapPromise}
 use Rattle.jit_theorem.proofs.MapProved.{map_theorem}
@@ -69,21 +67,21 @@ numbered TextTooShort = omega arith
 
 -- So what has it is accepted: the page is promised as `ndakoleem_translate_4` promises it, and the text names its bytes.
 module _ {x : Inputs} {base : ℕ} {before after : Buffers} {r : struct.Mapped} (h : ExportedMap x base before after r) (z : r.number ≡ 0) where
-  pub mapped-page : Promise x (page_in before) (page_in after) (translate.Accepted r.length r.jumps)
+  pub mapped-page : Promise x (page_in before) (page_in after) (Ok (record { length = r.length; jumps = r.jumps }))
   mapped-page = rw (h.length_is, h.jumps_are) (by h.answer h.promise (sym h.number_is ∙ z))
     where
       by : (a : Answer) → MapPromise x base before after a → number_in a ≡ 0
-          → Promise x (page_in before) (page_in after) (translate.Accepted (length_in a) (jumps_in a))
-      by (Accepted l j t) p e = p.page l j t refl
-      by (Refused q) p e = absurd (omega (arith, numbered q, e))
+          → Promise x (page_in before) (page_in after) (Ok (record { length = length_in a; jumps = jumps_in a }))
+      by (Ok a) p e = p.page a.length a.jumps a.text refl
+      by (Err q) p e = absurd (omega (arith, numbered q, e))
 
   pub mapped-text : (r.length ≡ size isa (whole (page_for x))) × ReadBack isa base (page_for x) (take r.text after.text)
   mapped-text = rw (h.length_is, h.text_is) (by h.answer h.promise (sym h.number_is ∙ z))
     where
       by : (a : Answer) → MapPromise x base before after a → number_in a ≡ 0
           → (length_in a ≡ size isa (whole (page_for x))) × ReadBack isa base (page_for x) (take (text_in a) after.text)
-      by (Accepted l j t) p e = p.map l j t refl
-      by (Refused q) p e = absurd (omega (arith, numbered q, e))
+      by (Ok a) p e = p.map a.length a.jumps a.text refl
+      by (Err q) p e = absurd (omega (arith, numbered q, e))
 
 -- The struct of an answer's five numbers meets the contract.
 pub exported-map : (x : Inputs) → Given x → (base : ℕ) {before after : Buffers} {a : Answer} {number slot bytes jumps text : ℕ}

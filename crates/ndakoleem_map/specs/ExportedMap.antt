@@ -2,35 +2,33 @@
 -- five numbers are the struct's. No refusal has number 0, so where the number is 0 the page is what `ndakoleem_translate_4` promises, and the
 -- text, read back, names its bytes (`mapped-page` and `mapped-text`, proofs/ExportedMapLaws.antt). It is a library of its own: a loader that
 -- wants no map links nothing of it, and its translation costs what it did.
-use Rattle.std.specs.Prelude.{◌≡◌, ℕ}
+use Rattle.std.specs.Prelude.{◌≡◌, ℕ, Ok, Err}
 use Rattle.jit.specs.Translation.{Inputs}
-use Rattle.jit_mapping.specs.declared.Answer.{Answer}
-use Rattle.jit_mapping.specs.declared.Answer.TheVariants.{Accepted, Refused}
 use Rattle.jit_mapping.specs.Refusals.{number_of, slot_of}
-use Rattle.jit_mapping.specs.Mapped.{Buffers}
+use Rattle.jit_mapping.specs.Mapped.{Answer, Buffers}
 use Rattle.jit_theorem.specs.MapTheorem.{MapPromise}
 use Rattle.ndakoleem_map.specs.declared.Mapped.{Mapped}
 
 -- the five numbers of an answer
 abbrev pub number_in : Answer → ℕ
-number_in (Accepted l j t) = 0
-number_in (Refused r) = number_of r
+number_in (Ok a) = 0
+number_in (Err r) = number_of r
 
 abbrev pub slot_in : Answer → ℕ
-slot_in (Accepted l j t) = 0
-slot_in (Refused r) = slot_of r
+slot_in (Ok a) = 0
+slot_in (Err r) = slot_of r
 
 abbrev pub length_in : Answer → ℕ
-length_in (Accepted l j t) = l
-length_in (Refused r) = 0
+length_in (Ok a) = a.length
+length_in (Err r) = 0
 
 abbrev pub jumps_in : Answer → ℕ
-jumps_in (Accepted l j t) = j
-jumps_in (Refused r) = 0
+jumps_in (Ok a) = a.jumps
+jumps_in (Err r) = 0
 
 abbrev pub text_in : Answer → ℕ
-text_in (Accepted l j t) = t
-text_in (Refused r) = 0
+text_in (Ok a) = a.text
+text_in (Err r) = 0
 
 -- THE CONTRACT, for what is asked, the page's base, and what is lent at entry and at exit
 pub record ExportedMap (x : Inputs) (base : ℕ) (before after : Buffers) (r : Mapped) : Type 0 where

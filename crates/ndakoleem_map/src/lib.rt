@@ -1,7 +1,7 @@
 // The translator that also writes the page's map, as C sees it: the static library that `rt lib` writes here. It stands apart from
 // crates/ndakoleem so that a loader that wants no map links nothing of it, and its translation costs what it did: in one library the two would
 // share the functions below them, and the compiler inlines a long function where it has one caller only. As there, it only hands on what it
-// is given and puts the answer into a struct of numbers, since an enum does not pass the boundary. The declarations for C are
+// is given and puts the answer into a struct of numbers, since a Result does not pass the boundary. The declarations for C are
 // include/ndakoleem.h.
 
 #![tactic(auto)]
@@ -10,7 +10,6 @@ ghost use Rattle.jit_translate.specs.Lent.{asked, flagged, in_mode};
 ghost use Rattle.ndakoleem_map.specs.Lent.{ExportedMap};
 
 use jit::{Flags, Mode};
-use jit_mapping::Answer;
 use jit_mapping::mapped::translate_mapped;
 
 // Accepted: number 0, slot 0, the code's length, the count of jumps and the length of the map's text. Refused: the number and slot of
@@ -49,34 +48,27 @@ pub extern "C" fn ndakoleem_translate_mapped_1(
         code locations fields targets kinds makers) base code locations fields targets kinds makers text result }
 {
     let flags = Flags {
-        use_mbuff: use_mbuff,
-        update_data_ptr: update_data_ptr,
+        use_mbuff,
+        update_data_ptr,
     };
-    let mode = Mode {
-        standard: standard,
-        compact: compact,
-    };
+    let mode = Mode { standard, compact };
     match translate_mapped(
         program, flags, mode, ids, addresses, code, locations, fields, targets, kinds, makers,
         base, text,
     ) {
-        Answer::Refused(refusal) => Mapped {
+        Ok(accepted) => Mapped {
+            number: 0,
+            slot: 0,
+            length: accepted.length,
+            jumps: accepted.jumps,
+            text: accepted.text,
+        },
+        Err(refusal) => Mapped {
             number: jit_mapping::number_of(refusal),
             slot: jit_mapping::slot_of(refusal),
             length: 0,
             jumps: 0,
             text: 0,
-        },
-        Answer::Accepted {
-            length,
-            jumps,
-            text,
-        } => Mapped {
-            number: 0,
-            slot: 0,
-            length: length,
-            jumps: jumps,
-            text: text,
         },
     }
 }

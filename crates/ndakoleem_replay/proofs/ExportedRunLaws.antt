@@ -3,6 +3,7 @@
 use mathlib.Core.Path.{◌≡◌, ◌∙◌, ap, sym, refl}
 use mathlib.Core.Bool.{Bool, true, false, not, ◌||◌}
 use mathlib.Core.Logic.{◌≢◌}
+use Rattle.std.specs.Prelude.{Result, Ok}
 use mathlib.Core.List.{List}
 use Prim.Native.Nat.{ℕ, ◌≤◌}
 use native.Mathlib.Omega.{arith}
@@ -23,14 +24,12 @@ use Rattle.replay.specs.Refusals.{number_of}
 use Rattle.replay.specs.Run as model
 use Rattle.replay.specs.Run.{run_of}
 use Rattle.replay.specs.Report.{Verdict, runs, refused, verdict_of, is_kept, tallied}
-use Rattle.replay_capture.specs.declared.Run.{Run}
-use Rattle.replay_capture.specs.declared.Run.TheVariants.{Ended}
 use Rattle.replay_capture.specs.Packet.{PacketRun, no, ran, of_packet, packet_of, answer_of, ran_in, copy_in, PacketReplayed}
 use Rattle.ndakoleem_replay.specs.declared.RanPacket.{RanPacket}
 use Rattle.ndakoleem_replay.specs.ExportedRun.{ended_of, value_of, number_in, slot_in, ended_in, value_in, ExportedRun}
 
 -- The struct of an answer's four numbers meets the contract.
-pub exported-run : {x : Inputs} {packet copy copy' counts counts' : List ℕ} {a : Run} {number slot how value : ℕ}
+pub exported-run : {x : Inputs} {packet copy copy' counts counts' : List ℕ} {a : Result ended.Ended Refusal} {number slot how value : ℕ}
     → PacketReplayed x packet copy copy' counts counts' a
     → number ≡ number_in a → slot ≡ slot_in a → how ≡ ended_in a → value ≡ value_in a
     → ExportedRun x packet copy copy' counts counts' (record { number = number; slot = slot; ended = how; r0 = value })
@@ -105,7 +104,7 @@ module _ {x : Inputs} {packet copy copy' counts counts' : List ℕ} {r : RanPack
     pub ran-so : packet_of x packet (length copy) ≡ ran (run_in x packet)
     ran-so = run_in_lem (verdict_of x) x.filter.program packet (length copy) (sym (ap number_in h.replayed.answer) ∙ sym h.number_is ∙ z)
 
-    answered : h.answer ≡ Ended (run_in x packet).how
+    answered : h.answer ≡ Ok (run_in x packet).how
     answered = h.replayed.answer ∙ ap answer_of ran-so
 
     pub ended_so : r.ended ≡ ended_of (run_in x packet).how

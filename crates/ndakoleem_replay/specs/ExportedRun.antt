@@ -1,13 +1,12 @@
 -- What the exported function that runs one packet answers: `PacketReplayed` (crates/replay_capture/specs/Packet.antt), of an answer whose four
 -- numbers are the struct's. No refusal has number 0, so where the number is 0 the packet was run; a refusal changes nothing of what is lent
 -- (`ran-so` and `refused-so`, proofs/ExportedRunLaws.antt). It is a library of its own: a loader that compares nothing links nothing of it.
-use Rattle.std.specs.Prelude.{◌≡◌, List, ℕ}
+use Rattle.std.specs.Prelude.{◌≡◌, List, ℕ, Result, Ok, Err}
 use Rattle.jit.specs.Translation.{Inputs}
 use Rattle.replay.specs.Refusals.{number_of, slot_of}
+use Rattle.replay.specs.declared.Refusal.{Refusal}
 use Rattle.replay.specs.declared.Ended as ended
 use Rattle.replay.specs.declared.Ended.TheVariants.{Exit, StepLimit, Access, NoSlot}
-use Rattle.replay_capture.specs.declared.Run.{Run}
-use Rattle.replay_capture.specs.declared.Run.TheVariants.{Refused, Ended}
 use Rattle.replay_capture.specs.Packet.{PacketReplayed}
 use Rattle.ndakoleem_replay.specs.declared.RanPacket.{RanPacket}
 
@@ -25,25 +24,25 @@ value_of Access = 0
 value_of NoSlot = 0
 
 -- the four numbers of an answer
-abbrev pub number_in : Run → ℕ
-number_in (Ended e) = 0
-number_in (Refused r) = number_of r
+abbrev pub number_in : Result ended.Ended Refusal → ℕ
+number_in (Ok e) = 0
+number_in (Err r) = number_of r
 
-abbrev pub slot_in : Run → ℕ
-slot_in (Ended e) = 0
-slot_in (Refused r) = slot_of r
+abbrev pub slot_in : Result ended.Ended Refusal → ℕ
+slot_in (Ok e) = 0
+slot_in (Err r) = slot_of r
 
-abbrev pub ended_in : Run → ℕ
-ended_in (Ended e) = ended_of e
-ended_in (Refused r) = 0
+abbrev pub ended_in : Result ended.Ended Refusal → ℕ
+ended_in (Ok e) = ended_of e
+ended_in (Err r) = 0
 
-abbrev pub value_in : Run → ℕ
-value_in (Ended e) = value_of e
-value_in (Refused r) = 0
+abbrev pub value_in : Result ended.Ended Refusal → ℕ
+value_in (Ok e) = value_of e
+value_in (Err r) = 0
 
 -- THE CONTRACT, for what is asked, the packet, and the buffer for its copy and the counts at entry and at exit
 pub record ExportedRun (x : Inputs) (packet copy copy' counts counts' : List ℕ) (r : RanPacket) : Type 0 where
-  pub answer : Run
+  pub answer : Result ended.Ended Refusal
   pub replayed : PacketReplayed x packet copy copy' counts counts' answer
   pub number_is : r.number ≡ number_in answer
   pub slot_is : r.slot ≡ slot_in answer

@@ -10,7 +10,6 @@ ghost use Rattle.ndakoleem_replay.specs.ExportedRun.{ended_of, value_of};
 ghost use Rattle.ndakoleem_replay.specs.Lent.{ExportedRun};
 
 use replay::Ended;
-use replay_capture::Run;
 use replay_capture::packet::replay_packet;
 use replay_text::refusal::{number_of, slot_of};
 
@@ -62,13 +61,13 @@ pub extern "C" fn ndakoleem_run_packet_1(
     ensures { ExportedRun program ids addresses page packet copy counts result }
 {
     match replay_packet(program, ids, addresses, page, packet, copy, counts) {
-        Run::Refused(refusal) => RanPacket {
+        Err(refusal) => RanPacket {
             number: number_of(refusal),
             slot: slot_of(refusal),
             ended: 0,
             r0: 0,
         },
-        Run::Ended(ended) => RanPacket {
+        Ok(ended) => RanPacket {
             number: 0,
             slot: 0,
             ended: ended_of(ended),

@@ -10,18 +10,17 @@ use lib.ListN.{length, replicate}
 use Rattle.base.specs.Pick.{pick}
 use Rattle.pcap.specs.declared.Order.{Order}
 use Rattle.pcap.specs.declared.Order.TheVariants.{Little, Big}
-use Rattle.pcap.specs.declared.Header.{Header}
-use Rattle.pcap.specs.declared.Header.TheVariants.{Pcap, NotPcap}
+use Rattle.std.specs.Prelude.{Option, Some, None}
 use Rattle.pcap.specs.declared.Record.{Record}
 use Rattle.pcap.specs.declared.Record.TheVariants.{End, Packet, Partial, TooLong}
 use Rattle.pcap.specs.Capture.{header_size, record_size, longest_packet, number_at, is_magic, captured, header_of, record_of}
 use Rattle.pcap.proofs.Worked.{headed}
 
 -- HEADERS. A reader, by the least file that it takes and the numbers that it takes for a magic one.
-abbrev header_by : (least : ℕ) → (magic : ℕ → Bool) → List ℕ → Header
+abbrev header_by : (least : ℕ) → (magic : ℕ → Bool) → List ℕ → Option Order
 header_by least magic file =
-    pick (ltb (length file) least) NotPcap
-    (pick (magic (number_at Little file 0)) (Pcap Little) (pick (magic (number_at Big file 0)) (Pcap Big) NotPcap))
+    pick (ltb (length file) least) None
+    (pick (magic (number_at Little file 0)) (Some Little) (pick (magic (number_at Big file 0)) (Some Big) None))
 
 pub right-header : (file : List ℕ) → header_of file ≡ header_by header_size is_magic file
 unfolding header_of

@@ -6,7 +6,7 @@ use native.Mathlib.Omega.{arith}
 use lib.ListN.{length, take, replicate}
 use Rattle.pcap.specs.declared.Order.{Order}
 use Rattle.pcap.specs.declared.Order.TheVariants.{Little, Big}
-use Rattle.pcap.specs.declared.Header.TheVariants.{Pcap, NotPcap}
+use Rattle.std.specs.Prelude.{Option, Some, None}
 use Rattle.pcap.specs.declared.Record.TheVariants.{End, Packet, Partial, TooLong}
 use Rattle.pcap.specs.Capture.{header_of, record_of, records_from, records_of}
 use Rattle.pcap.proofs.CaptureLaws.{packet}
@@ -27,14 +27,14 @@ pub headers : map header_of
     ∷ (0xa1 ∷ 0xb2 ∷ 0xc3 ∷ 0xd4 ∷ big)
     ∷ (0xa1 ∷ 0xb2 ∷ 0x3c ∷ 0x4d ∷ big)
     ∷ [])
-    ≡ Pcap Little ∷ Pcap Little ∷ Pcap Big ∷ Pcap Big ∷ []
+    ≡ Some Little ∷ Some Little ∷ Some Big ∷ Some Big ∷ []
 unfolding header_of
 headers = refl
 
 -- a byte too few; two bytes of the magic number exchanged; a capture in the newer format; no byte
 pub no-headers : map header_of
     (take 23 microseconds ∷ (0xc3 ∷ 0xd4 ∷ 0xb2 ∷ 0xa1 ∷ little) ∷ (0x0a ∷ 0x0d ∷ 0x0d ∷ 0x0a ∷ little) ∷ [] ∷ [])
-    ≡ NotPcap ∷ NotPcap ∷ NotPcap ∷ NotPcap ∷ []
+    ≡ None ∷ None ∷ None ∷ None ∷ []
 unfolding header_of
 no-headers = refl
 

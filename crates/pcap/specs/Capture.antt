@@ -2,12 +2,10 @@
 -- of a packet. The header begins with a magic number, by whose bytes the order of all numbers of the file is known; one magic is for times in
 -- microseconds, one for nanoseconds. Nothing else of the header counts here, and of a record's header only the captured length, its third
 -- number. What a file says of itself is not trusted: a length counts as far as the bytes are there.
-use Rattle.std.specs.Prelude.{Bool, ◌||◌, List, [], ◌∷◌, ℕ, zero, suc, ◌+◌, ◌*◌, ltb, eqb, length, get_or, take, drop}
+use Rattle.std.specs.Prelude.{Bool, ◌||◌, Option, Some, None, List, [], ◌∷◌, ℕ, zero, suc, ◌+◌, ◌*◌, ltb, eqb, length, get_or, take, drop}
 use Rattle.base.specs.Pick.{pick}
 use Rattle.pcap.specs.declared.Order.{Order}
 use Rattle.pcap.specs.declared.Order.TheVariants.{Little, Big}
-use Rattle.pcap.specs.declared.Header.{Header}
-use Rattle.pcap.specs.declared.Header.TheVariants.{Pcap, NotPcap}
 use Rattle.pcap.specs.declared.Record.{Record}
 use Rattle.pcap.specs.declared.Record.TheVariants.{End, Packet, Partial, TooLong}
 
@@ -30,10 +28,10 @@ number_at Big s at = get_or s (at + 3) 0 + 256 * get_or s (at + 2) 0 + 65536 * g
 abbrev pub is_magic : ℕ → Bool
 is_magic x = eqb x 0xa1b2c3d4 || eqb x 0xa1b23c4d
 
-unfoldable pub header_of : (file : List ℕ) → Header
+unfoldable pub header_of : (file : List ℕ) → Option Order
 header_of file =
-    pick (ltb (length file) header_size) NotPcap
-    (pick (is_magic (number_at Little file 0)) (Pcap Little) (pick (is_magic (number_at Big file 0)) (Pcap Big) NotPcap))
+    pick (ltb (length file) header_size) None
+    (pick (is_magic (number_at Little file 0)) (Some Little) (pick (is_magic (number_at Big file 0)) (Some Big) None))
 
 -- seconds, their fraction, the captured length, the packet's own length
 abbrev pub captured : Order → List ℕ → ℕ

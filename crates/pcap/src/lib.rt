@@ -27,13 +27,7 @@ pub enum Order {
     Big,
 }
 
-#[derive(Clone, Copy)]
-pub enum Header {
-    Pcap(Order),
-    NotPcap,
-}
-
-// What stands at the head of the bytes behind a header.
+// What stands at the head of the bytes behind a header: four answers, of which `End` is no refusal, so no Option or Result has them.
 #[derive(Clone, Copy)]
 pub enum Record {
     // Nothing.
@@ -46,50 +40,44 @@ pub enum Record {
     TooLong,
 }
 
-// The number of four bytes, the lowest first.
-fn number(b0: u8, b1: u8, b2: u8, b3: u8) -> u32
-    ensures { result ≡ b0 + 256 * b1 + 65536 * b2 + 16777216 * b3 }
-{
-    (b0 as u32) + 256 * (b1 as u32) + 65536 * (b2 as u32) + 16777216 * (b3 as u32)
-}
-
 fn number_at(order: Order, s: &[u8], at: usize) -> u32
     requires { at + 4 ≤ length s.now }
     ensures { result ≡ number_at order s.now at }
 {
+    let bytes = [s[at], s[at + 1], s[at + 2], s[at + 3]];
     match order {
-        Order::Little => number(s[at], s[at + 1], s[at + 2], s[at + 3]),
-        Order::Big => number(s[at + 3], s[at + 2], s[at + 1], s[at]),
+        Order::Little => u32::from_le_bytes(bytes),
+        Order::Big => u32::from_be_bytes(bytes),
     }
 }
 
 fn is_magic(x: u32) -> bool
     ensures { result ≡ is_magic x }
 {
-    x == MICROSECONDS || x == NANOSECONDS
+    matches!(x, MICROSECONDS | NANOSECONDS)
 }
 
-// In which order the numbers of a capture stand, or that the bytes are none.
-pub fn header_of(file: &[u8]) -> Header
+// In which order the numbers of a capture stand; none where the bytes are no capture.
+pub fn header_of(file: &[u8]) -> Option<Order>
     ensures { result ≡ header_of file.now }
 {
     if file.len() < HEADER {
-        return Header::NotPcap;
+        return None;
     }
     if is_magic(number_at(Order::Little, file, 0)) {
-        return Header::Pcap(Order::Little);
+        return Some(Order::Little);
     }
     if is_magic(number_at(Order::Big, file, 0)) {
-        return Header::Pcap(Order::Big);
+        return Some(Order::Big);
     }
-    Header::NotPcap
+    None
 }
 
 // What stands at the head of the bytes behind the header, or behind a packet.
 pub fn record_of(order: Order, bytes: &[u8]) -> Record
     ensures { result ≡ record_of order bytes.now }
 {
-    if bytes.len() == 0 {
+    if bytes.is_empty() {
         return Record::End;
     }
     if bytes.len() < RECORD {

@@ -9,14 +9,17 @@
 
 #![tactic(auto)]
 
-ghost use Rattle.std.specs.Prelude.{◌≤◌, ◌<◌, length};
+ghost use Rattle.std.specs.Prelude.{◌≤◌, ◌<◌, length, IfOk};
 
-use cases_bytes::turn::Turn;
-use cases_bytes::{limits, numbers, stream, turn};
+use cases_bytes::output::{flush, made_room};
+use cases_bytes::turn::each_record;
+use cases_bytes::{limits, numbers};
 use cases_problems::Problem;
+use std::ops::ControlFlow;
+use streams::Reason;
 use text::form::put_form;
 use text::text::put_byte;
-use x86_instructions::{Instruction, Read};
+use x86_instructions::Instruction;
 use x86_reader::decode::decode;
 use x86_text::instruction::put_instruction;
 
@@ -28,41 +31,7 @@ const OUTPUT: usize = 65536;
 // No line is longer.
 const LINE: usize = 128;
 
-// How much of the output waits to be written.
-#[derive(Clone, Copy)]
-struct Waiting {
-    at: usize,
-    failed: bool,
-}
-
-fn flushed(rt: &HostRuntime, out: &[u8], at: usize) -> Waiting
-    requires { at ≤ length out.now }
-    ensures { result.at ≤ length out.now }
-{
-    match streams::write(&streams::output(rt), &out[..at]) {
-        Ok(()) => Waiting {
-            at: 0,
-            failed: false,
-        },
-        Err(_) => {
-            streams::tell(rt, b"the instructions cannot be written\n");
-            Waiting {
-                at: 0,
-                failed: true,
-            }
-        }
-    }
-}
-
-fn made_room(rt: &HostRuntime, out: &[u8], at: usize) -> Waiting
-    requires { at ≤ length out.now }
-    ensures { result.at ≤ length out.now }
-{
-    if LINE <= out.len() - at {
-        return Waiting { at, failed: false };
-    }
-    flushed(rt, out, at)
-}
+const UNWRITTEN: &[u8] = b"the instructions cannot be written\n";
 
 fn put_line(out: &mut [u8], at: usize, place: usize, i: Instruction, end: usize) -> usize
     requires { (at ≤ length out.old) × (place ≤ end) }
@@ -80,32 +49,33 @@ fn put_bad(out: &mut [u8], at: usize, place: usize) -> usize
     put_form(out, at, b"$ 0 bad\n", &[place as u64])
 }
 
-// One instruction further: what waits to be written, and the place of the next instruction.
+// One instruction further: how much waits to be written, and the place of the next instruction.
 #[derive(Clone, Copy)]
 struct Step {
-    failed: bool,
     at: usize,
     place: usize,
 }
 
-fn put_next(rt: &HostRuntime, out: &mut [u8], at: usize, code: &[u8], place: usize) -> Step
+fn put_next(
+    rt: &HostRuntime,
+    out: &mut [u8],
+    at: usize,
+    code: &[u8],
+    place: usize,
+) -> Result<Step, Reason>
     requires { (at ≤ length out.old) × (place < length code.now) }
-    ensures { (result.at ≤ length out.new) × ((place < result.place) × (result.place ≤ length code.now)) }
+    ensures { IfOk result (λ step. (step.at ≤ length out.new) × ((place < step.place) × (step.place ≤ length code.now))) }
 {
-    let room = made_room(rt, out, at);
-    let from = room.at;
-    let failed = room.failed;
+    let from = made_room(rt, out, at, LINE, UNWRITTEN)?;
     match decode(code, place) {
-        Read::Bad => Step {
-            failed,
+        None => Ok(Step {
             at: put_bad(out, from, place),
             place: code.len(),
-        },
-        Read::Got(i, end) => Step {
-            failed,
+        }),
+        Some((i, end)) => Ok(Step {
             at: put_line(out, from, place, i, end),
             place: end,
-        },
+        }),
     }
 }
 
@@ -115,82 +85,45 @@ fn put_header(out: &mut [u8], index: u64) -> usize
     put_form(out, 0, b"page #\n", &[index])
 }
 
-// Whether all of it could be written.
-fn print_page(rt: &HostRuntime, index: u64, code: &[u8], out: &mut [u8]) -> bool {
+fn print_page(rt: &HostRuntime, index: u64, code: &[u8], out: &mut [u8]) -> Result<(), Reason> {
     let mut at = put_header(out, index);
     let mut place = 0;
     while place < code.len() {
-        let step = put_next(rt, out, at, code, place);
+        let step = put_next(rt, out, at, code, place)?;
         at = step.at;
         place = step.place;
-        if step.failed {
-            return false;
-        }
     }
-    let done = flushed(rt, out, at);
-    !done.failed
+    flush(rt, &out[..at], UNWRITTEN)
 }
 
 // Whether the stream is to be read on.
-fn print_answer(rt: &HostRuntime, index: u64, answer: &[u8], out: &mut [u8]) -> bool {
+fn print_answer(rt: &HostRuntime, index: u64, answer: &[u8], out: &mut [u8]) -> ControlFlow<()> {
     let start = 13;
     if answer.len() < start {
-        return true;
+        return ControlFlow::Continue(());
     }
     if answer[0] != 0 {
-        return true;
+        return ControlFlow::Continue(());
     }
     let length = numbers::count_at(answer, 1);
     if answer.len() - start < length {
         cases_problems::report(rt, b"answer", index, Problem::Unfilled);
-        return false;
+        return ControlFlow::Break(());
     }
-    let end = start + length;
-    print_page(rt, index, &answer[start..end], out)
-}
-
-fn print_next(
-    rt: &HostRuntime,
-    index: u64,
-    input: &mut [u8],
-    start: usize,
-    end: usize,
-    out: &mut [u8],
-) -> Turn
-    requires { (start ≤ end) × (end ≤ length input.old) }
-    ensures { (result.start ≤ result.end) × (result.end ≤ length input.new) }
-{
-    let window = stream::window_of(start, end);
-    let next = stream::next_record(&streams::input(rt), input, window, limits::ANSWER);
-    let wrong = next.problem;
-    let at = next.at;
-    let behind = at + next.length;
-    if !cases_problems::is_nothing(wrong) {
-        return turn::last(rt, b"answer", index, wrong);
-    }
-    Turn {
-        goes_on: print_answer(rt, index, &input[at..behind], out),
-        start: behind,
-        end: next.end,
-    }
-}
-
-// A proved loop has to end, and nothing says that a stream does: so it counts its answers, to a number that none reaches.
-fn print_all(rt: &HostRuntime, input: &mut [u8], out: &mut [u8]) {
-    let mut start = 0;
-    let mut end = 0;
-    for index in 0..u64::MAX {
-        let turn = print_next(rt, index, input, start, end, out);
-        if !turn.goes_on {
-            break;
-        }
-        start = turn.start;
-        end = turn.end;
+    match print_page(rt, index, &answer[start..start + length], out) {
+        Ok(()) => ControlFlow::Continue(()),
+        Err(_) => ControlFlow::Break(()),
     }
 }
 
 fn main(rt: HostRuntime) {
     let mut input = [0u8; INPUT];
     let mut out = [0u8; OUTPUT];
-    print_all(&rt, &mut input, &mut out);
+    each_record(
+        &rt,
+        b"answer",
+        &mut input,
+        limits::ANSWER,
+        |index, answer| { print_answer(&rt, index, answer, &mut out) },
+    );
 }

@@ -9,7 +9,7 @@ ghost use Rattle.jit.specs.Limits.{longest_page};
 use jit::{MOST_HELPERS, MOST_SLOTS};
 use listing_options::filter::{INPUT, read_filter};
 use listing_options::help::{HELP, explain_options};
-use listing_options::options::{LARGEST, Options, Program, flags_of, read_options};
+use listing_options::options::{LARGEST, Options, Program, read_options};
 use listing_saving::list_saving;
 use listing_table::list_filter;
 
@@ -34,8 +34,6 @@ fn explain(rt: &HostRuntime) {
 fn list_lent(rt: &HostRuntime, program: &[u8], options: Options, ids: &[u32], addresses: &[u64])
     requires { options.page ≤ longest_page + 1 }
 {
-    let flags = flags_of(options);
-    let mode = options.mode;
     let size = options.page;
     let mut page = [0u8; LARGEST];
     let mut locations = [0u32; TABLE];
@@ -47,8 +45,8 @@ fn list_lent(rt: &HostRuntime, program: &[u8], options: Options, ids: &[u32], ad
     let answer = list_filter(
         rt,
         program,
-        flags,
-        mode,
+        options.flags,
+        options.mode,
         ids,
         addresses,
         &mut page[..size],
@@ -61,7 +59,16 @@ fn list_lent(rt: &HostRuntime, program: &[u8], options: Options, ids: &[u32], ad
     );
     let mut line = [0u8; listing_saving::LINE];
     list_saving(
-        rt, &mut line, program, flags, mode, ids, addresses, size, answer, &reason,
+        rt,
+        &mut line,
+        program,
+        options.flags,
+        options.mode,
+        ids,
+        addresses,
+        size,
+        answer,
+        &reason,
     );
 }
 
@@ -69,12 +76,9 @@ fn list(rt: &HostRuntime, options: Options, ids: &[u32], addresses: &[u64])
     requires { options.page ≤ longest_page + 1 }
 {
     let mut input = [0u8; INPUT];
-    let filter = read_filter(rt, options.file, &mut input);
-    if filter.failed {
-        return;
+    if let Some(length) = read_filter(rt, options.file, &mut input) {
+        list_lent(rt, &input[..length], options, ids, addresses);
     }
-    let length = filter.length;
-    list_lent(rt, &input[..length], options, ids, addresses);
 }
 
 fn main(rt: HostRuntime) {

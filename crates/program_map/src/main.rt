@@ -8,12 +8,13 @@ ghost use Rattle.std.specs.Prelude.{◌+◌, ◌≤◌};
 ghost use Rattle.jit.specs.Limits.{longest_page};
 
 use cases_bytes::answer::put_refused_line;
+use cases_bytes::output::write_first;
 use jit::{MOST_HELPERS, MOST_SLOTS};
 use jit_mapping::mapped::translate_mapped;
-use jit_mapping::{Answer, LONGEST_LINE, Refusal, number_of, slot_of};
+use jit_mapping::{LONGEST_LINE, Refusal, number_of, slot_of};
 use listing_options::filter::{INPUT, read_filter};
 use listing_options::help::{HELP, explain_options};
-use listing_options::options::{LARGEST, Options, Program, flags_of, read_options};
+use listing_options::options::{LARGEST, Options, Program, read_options};
 use listing_options::place::{Base, read_base};
 
 // An entry for each slot that the input can hold, and one.
@@ -48,17 +49,6 @@ fn report(rt: &HostRuntime, refusal: Refusal) {
     streams::tell(rt, &line[..end]);
 }
 
-fn write_map(rt: &HostRuntime, text: &[u8], length: usize) {
-    if text.len() < length {
-        streams::tell(rt, b"the translator answers a length beyond the text\n");
-        return;
-    }
-    match streams::write(&streams::output(rt), &text[..length]) {
-        Ok(()) => (),
-        Err(reason) => streams::fail(rt, b"standard output", reason),
-    }
-}
-
 // Of the page the first bytes are lent, as many as the options say.
 fn map_lent(
     rt: &HostRuntime,
@@ -80,7 +70,7 @@ fn map_lent(
     let mut text = [0u8; TEXT];
     match translate_mapped(
         program,
-        flags_of(options),
+        options.flags,
         options.mode,
         ids,
         addresses,
@@ -93,12 +83,13 @@ fn map_lent(
         base,
         &mut text,
     ) {
-        Answer::Refused(refusal) => report(rt, refusal),
-        Answer::Accepted {
-            length: _,
-            jumps: _,
-            text: end,
-        } => write_map(rt, &text, end),
+        Ok(accepted) => write_first(
+            rt,
+            &text,
+            accepted.text,
+            b"the translator answers a length beyond the text\n",
+        ),
+        Err(refusal) => report(rt, refusal),
     }
 }
 
@@ -106,12 +97,9 @@ fn map_filter(rt: &HostRuntime, base: u64, options: Options, ids: &[u32], addres
     requires { options.page ≤ longest_page + 1 }
 {
     let mut input = [0u8; INPUT];
-    let filter = read_filter(rt, options.file, &mut input);
-    if filter.failed {
-        return;
+    if let Some(length) = read_filter(rt, options.file, &mut input) {
+        map_lent(rt, base, &input[..length], options, ids, addresses);
     }
-    let length = filter.length;
-    map_lent(rt, base, &input[..length], options, ids, addresses);
 }
 
 // The options stand behind the base address.

@@ -5,21 +5,15 @@
 
 #![tactic(auto)]
 
-ghost use Rattle.std.specs.Prelude.{◌≤◌, length};
-
 use cases_bytes::answer::put_refused_line;
-use cases_bytes::limits::least;
+use cases_bytes::limits;
 use cases_bytes::parts::Case;
-use cases_bytes::turn::Turn;
-use cases_bytes::{limits, parts, stream, turn};
-use cases_problems::Problem;
+use cases_bytes::turn::{each_record, show_case};
 use jit::MOST_SLOTS;
 use jit_mapping::mapped::translate_mapped;
-use jit_mapping::{Answer, LONGEST_LINE, Refusal, number_of, slot_of};
-use listing_arguments::Number;
+use jit_mapping::{Accepted, LONGEST_LINE, Refusal, number_of, slot_of};
 use listing_options::options::{Program, SENTENCE, complain};
 use listing_options::place::{Base, read_base};
-use text::form::put_form;
 
 // The longest case fits, with its length.
 const INPUT: usize = 4 + limits::CASE;
@@ -48,12 +42,6 @@ fn explain(rt: &HostRuntime) {
     );
 }
 
-fn show_number(rt: &HostRuntime, index: u64) {
-    let mut line = [0u8; LINE];
-    let end = put_form(&mut line, 0, b"case #\n", &[index]);
-    streams::show(rt, &line[..end]);
-}
-
 fn show_refusal(rt: &HostRuntime, refusal: Refusal) {
     let mut line = [0u8; LINE];
     let number = number_of(refusal);
@@ -70,162 +58,68 @@ fn show_text(rt: &HostRuntime, text: &[u8], length: usize) {
     streams::show(rt, &text[..length]);
 }
 
-fn show_answer(rt: &HostRuntime, answer: Answer, text: &[u8]) {
+fn show_answer(rt: &HostRuntime, answer: Result<Accepted, Refusal>, text: &[u8]) {
     match answer {
-        Answer::Refused(refusal) => show_refusal(rt, refusal),
-        Answer::Accepted {
-            length: _,
-            jumps: _,
-            text: end,
-        } => show_text(rt, text, end),
+        Ok(accepted) => show_text(rt, text, accepted.text),
+        Err(refusal) => show_refusal(rt, refusal),
     }
 }
 
-// Of a longer page or table than there is the whole is lent, which the translator cannot tell.
+// Of a longer page or table than there is the whole is lent, which the translator cannot tell, and of more room for the text than the longest
+// map takes that much.
 fn show_map(
     rt: &HostRuntime,
-    base: u64,
+    asked: Asked,
     program: &[u8],
     case: Case,
     ids: &[u32],
     addresses: &[u64],
-    text: &mut [u8],
 ) {
+    let mut text = [0u8; TEXT];
+    let text = &mut text[..asked.room.min(TEXT)];
     let mut page = [0u8; limits::PAGE];
     let mut locations = [0u32; limits::TABLE];
     let mut fields = [0u32; limits::TABLE];
     let mut targets = [0u32; limits::TABLE];
     let mut kinds = [0u32; limits::TABLE];
     let mut makers = [0u32; limits::TABLE];
-    let p = least(case.code, limits::PAGE);
-    let l = least(case.locations, limits::TABLE);
-    let f = least(case.fields, limits::TABLE);
-    let t = least(case.targets, limits::TABLE);
-    let k = least(case.kinds, limits::TABLE);
-    let m = least(case.makers, limits::TABLE);
     let answer = translate_mapped(
         program,
-        parts::flags_of(case),
-        parts::mode_of(case),
+        case.flags,
+        case.mode,
         ids,
         addresses,
-        &mut page[..p],
-        &mut locations[..l],
-        &mut fields[..f],
-        &mut targets[..t],
-        &mut kinds[..k],
-        &mut makers[..m],
-        base,
+        &mut page[..case.code.min(limits::PAGE)],
+        &mut locations[..case.locations.min(limits::TABLE)],
+        &mut fields[..case.fields.min(limits::TABLE)],
+        &mut targets[..case.targets.min(limits::TABLE)],
+        &mut kinds[..case.kinds.min(limits::TABLE)],
+        &mut makers[..case.makers.min(limits::TABLE)],
+        asked.base,
         text,
     );
     show_answer(rt, answer, text);
 }
 
-// Of more room for the text than the longest map takes that much is lent.
-fn show_case(
-    rt: &HostRuntime,
-    asked: Asked,
-    body: &[u8],
-    case: Case,
-    ids: &[u32],
-    addresses: &[u64],
-)
-    requires { (case.ids ≤ length ids.now) × ((case.addresses ≤ length addresses.now) × (case.program ≤ length body.now)) }
-{
-    let program = case.program;
-    let i = case.ids;
-    let a = case.addresses;
-    let mut text = [0u8; TEXT];
-    let room = least(asked.room, TEXT);
-    show_map(
-        rt,
-        asked.base,
-        &body[program..],
-        case,
-        &ids[..i],
-        &addresses[..a],
-        &mut text[..room],
-    );
-}
-
-fn show_body(rt: &HostRuntime, asked: Asked, index: u64, body: &[u8]) -> Problem {
-    let mut ids = [0u32; limits::HELPERS];
-    let mut addresses = [0u64; limits::HELPERS];
-    let case = parts::take_apart(body, &mut ids, &mut addresses);
-    let malformed = case.problem;
-    if cases_problems::is_nothing(malformed) {
-        show_number(rt, index);
-        show_case(rt, asked, body, case, &ids, &addresses);
-    }
-    malformed
-}
-
-fn show_next(
-    rt: &HostRuntime,
-    asked: Asked,
-    index: u64,
-    input: &mut [u8],
-    start: usize,
-    end: usize,
-) -> Turn
-    requires { (start ≤ end) × (end ≤ length input.old) }
-    ensures { (result.start ≤ result.end) × (result.end ≤ length input.new) }
-{
-    let window = stream::window_of(start, end);
-    let next = stream::next_record(&streams::input(rt), input, window, limits::CASE);
-    let unread = next.problem;
-    let at = next.at;
-    let behind = at + next.length;
-    if !cases_problems::is_nothing(unread) {
-        return turn::last(rt, b"case", index, unread);
-    }
-    let malformed = show_body(rt, asked, index, &input[at..behind]);
-    if !cases_problems::is_nothing(malformed) {
-        return turn::last(rt, b"case", index, malformed);
-    }
-    Turn {
-        goes_on: true,
-        start: behind,
-        end: next.end,
-    }
-}
-
-// A proved loop has to end, and nothing says that a stream does: so it counts its cases, to a number that none reaches.
-fn show_all(rt: &HostRuntime, asked: Asked, input: &mut [u8]) {
-    let mut start = 0;
-    let mut end = 0;
-    for index in 0..u64::MAX {
-        let turn = show_next(rt, asked, index, input, start, end);
-        if !turn.goes_on {
-            break;
-        }
-        start = turn.start;
-        end = turn.end;
-    }
-}
-
-fn room_in(rt: &HostRuntime, word: &[u8]) -> Number {
+fn room_in(rt: &HostRuntime, word: &[u8]) -> Option<u64> {
     let room = listing_arguments::number_of(word);
-    match room {
-        Number::Is(_) => (),
-        Number::Not => {
-            let mut line = [0u8; SENTENCE];
-            complain(
-                rt,
-                &mut line,
-                Program::Maps,
-                b"the room for the text is not a number: ",
-                word,
-            );
-        }
+    if room.is_none() {
+        let mut line = [0u8; SENTENCE];
+        complain(
+            rt,
+            &mut line,
+            Program::Maps,
+            b"the room for the text is not a number: ",
+            word,
+        );
     }
     room
 }
 
-// The second argument, or enough for every map.
-fn read_room(rt: &HostRuntime) -> Number {
+// The second argument, or enough for every map; nothing where it is no number.
+fn read_room(rt: &HostRuntime) -> Option<u64> {
     if streams::word_count(rt) < 3 {
-        return Number::Is(TEXT as u64);
+        return Some(TEXT as u64);
     }
     let mut word = streams::word_room();
     let n = streams::word_or_empty(rt, 2, &mut word);
@@ -233,7 +127,7 @@ fn read_room(rt: &HostRuntime) -> Number {
 }
 
 fn show_at(rt: &HostRuntime, base: u64) {
-    let Number::Is(room) = read_room(rt) else {
+    let Some(room) = read_room(rt) else {
         return;
     };
     let asked = Asked {
@@ -241,7 +135,11 @@ fn show_at(rt: &HostRuntime, base: u64) {
         room: room as usize,
     };
     let mut input = [0u8; INPUT];
-    show_all(rt, asked, &mut input);
+    each_record(rt, b"case", &mut input, limits::CASE, |index, body| {
+        show_case(rt, index, body, |case, program, ids, addresses| {
+            show_map(rt, asked, program, case, ids, addresses)
+        })
+    });
 }
 
 fn main(rt: HostRuntime) {

@@ -1,104 +1,67 @@
 // A capture, read and run window by window: however long it is, it takes the memory of one.
-ghost use Rattle.std.specs.Prelude.{◌≡◌, ◌≤◌, length};
+ghost use Rattle.std.specs.Prelude.{◌≤◌, length};
+ghost use Rattle.program_replay.specs.Windows.{PartIn, TurnIn};
 
-use crate::files::{Kept, fail_reading, open_kept};
+use crate::files::{fail_reading, open_kept};
 use crate::said::{clear_progress, refuse, report, show_progress};
 use crate::space;
 use crate::space::WINDOW;
 use cases_bytes::stream;
-use pcap::{HEADER, Header, Order, Record, header_of, record_of};
+use pcap::{HEADER, Order, Record, header_of, record_of};
 use replay::{Refusal, Totals};
-use replay_capture::Answer;
+use replay_capture::Report;
 use replay_capture::window::replay_window;
+use std::ops::ControlFlow;
 use streams::{Sink, Source};
 
-// A capture that is open, and what is asked for of it.
-#[derive(Drop)]
-pub struct Capture {
-    pub source: Source,
+// What is asked of the translator.
+#[derive(Clone, Copy)]
+pub struct Filter<'a> {
+    pub program: &'a [u8],
+    pub ids: &'a [u32],
+    pub addresses: &'a [u64],
     pub page: usize,
+}
+
+// A capture that is open, by its name, and what is asked for of it.
+#[derive(Drop)]
+pub struct Capture<'a> {
+    pub source: Source,
+    pub name: &'a [u8],
     // The terminal that progress is shown on.
     pub shown: Option<Sink>,
-    // Which argument is the name of the file for the kept packets; 0 where they are not written.
-    pub write: usize,
+    // Which argument is the name of the file for the kept packets, where they are written.
+    pub write: Option<usize>,
 }
 
 // What stays the same from window to window.
 #[derive(Drop)]
-struct Reading {
+struct Reading<'a> {
     source: Source,
-    page: usize,
+    name: &'a [u8],
     order: Order,
     shown: Option<Sink>,
     // The file for the kept packets.
     out: Option<Sink>,
 }
 
+// How a replay stands behind a window that it goes on from: what was counted, and how many bytes of the window are left.
 #[derive(Clone, Copy)]
-enum How {
-    GoesOn,
-    // The capture has ended behind a record.
-    Whole,
-    // What is left begins with no whole record.
-    Cut,
-    // Standard error says why.
-    Stopped,
-}
-
-// How the replay stands behind a window, and how many bytes of it are left.
-#[derive(Clone, Copy)]
-struct Part {
-    how: How,
-    totals: Totals,
-    left: usize,
+pub struct Part {
+    pub totals: Totals,
+    pub left: usize,
 }
 
 // .. and where they are in the buffer.
 #[derive(Clone, Copy)]
-struct Turn {
-    how: How,
-    totals: Totals,
-    start: usize,
-    end: usize,
-}
-
-fn last_part(how: How, totals: Totals) -> Part
-    ensures { result.left ≡ 0 }
-{
-    Part {
-        how,
-        totals,
-        left: 0,
-    }
-}
-
-fn last(how: How, totals: Totals) -> Turn
-    ensures { (result.start ≡ 0) × (result.end ≡ 0) }
-{
-    Turn {
-        how,
-        totals,
-        start: 0,
-        end: 0,
-    }
-}
-
-fn goes_on(how: How) -> bool {
-    match how {
-        How::GoesOn => true,
-        How::Whole => false,
-        How::Cut => false,
-        How::Stopped => false,
-    }
+pub struct Turn {
+    pub totals: Totals,
+    pub start: usize,
+    pub end: usize,
 }
 
 fn is_too_long(record: Record) -> bool {
-    match record {
-        Record::End => false,
-        Record::Packet(_) => false,
-        Record::Partial => false,
-        Record::TooLong => true,
-    }
+    matches!(record, Record::TooLong)
 }
 
 // The first bytes of `kept`, where a file is open for them; whether they are written.
@@ -120,25 +83,29 @@ fn write_kept(rt: &HostRuntime, out: &Option<Sink>, kept: &[u8], length: usize) 
 }
 
 // Behind a window of which `used` bytes were whole records. A window that begins with none is the end of a capture that is cut short, or has
-// a record that is too long, and so has one whose rest begins with that: it is said before more is read.
-fn behind_window(rt: &HostRuntime, order: Order, window: &[u8], used: usize, totals: Totals) -> Part
-    ensures { result.left ≤ length window.now }
+// a record that is too long, and so has one whose rest begins with that: it is said before more is read. None where standard error says why the
+// replay stops.
+fn behind_window(
+    rt: &HostRuntime,
+    order: Order,
+    window: &[u8],
+    used: usize,
+    totals: Totals,
+) -> Option<ControlFlow<Report, Part>>
+    ensures { PartIn (length window.now) result }
 {
     if used == 0 {
-        return last_part(How::Cut, totals);
+        return Some(ControlFlow::Break(Report::Cut(totals)));
     }
     if window.len() < used {
         streams::tell(rt, b"a replay answers a length beyond its window\n");
-        return last_part(How::Stopped, totals);
+        return None;
     }
     if is_too_long(record_of(order, &window[used..])) {
-        return last_part(How::Cut, totals);
+        return Some(ControlFlow::Break(Report::Cut(totals)));
     }
-    Part {
-        how: How::GoesOn,
-        totals,
-        left: window.len() - used,
-    }
+    let left = window.len() - used;
+    Some(ControlFlow::Continue(Part { totals, left }))
 }
 
 // The same where `records` bytes of kept packets are to be written first.
@@ -150,11 +117,11 @@ fn behind_kept(
     totals: Totals,
     kept: &[u8],
     records: usize,
-) -> Part
-    ensures { result.left ≤ length window.now }
+) -> Option<ControlFlow<Report, Part>>
+    ensures { PartIn (length window.now) result }
 {
     if !write_kept(rt, &reading.out, kept, records) {
-        return last_part(How::Stopped, totals);
+        return None;
     }
     let order = reading.order;
     behind_window(rt, order, window, used, totals)
@@ -164,23 +131,22 @@ fn behind_kept(
 fn replay_part(
     rt: &HostRuntime,
     reading: &Reading,
-    program: &[u8],
-    ids: &[u32],
-    addresses: &[u64],
+    filter: Filter,
     window: &[u8],
     totals: Totals,
     counts: &mut [u64],
     kept: &mut [u8],
-) -> Part
-    ensures { result.left ≤ length window.now }
+) -> Option<ControlFlow<Report, Part>>
+    ensures { PartIn (length window.now) result }
 {
     let order = reading.order;
+    let program = filter.program;
     let mut copy = space::for_packet();
     match replay_window(
         program,
-        ids,
-        addresses,
-        reading.page,
+        filter.ids,
+        filter.addresses,
+        filter.page,
         order,
         window,
         totals,
@@ -188,15 +154,22 @@ fn replay_part(
         &mut copy,
         kept,
     ) {
-        Answer::Refused(refusal) => {
+        Err(refusal) => {
             refuse(rt, program, refusal);
-            last_part(How::Stopped, totals)
+            None
         }
-        Answer::Ran {
-            used,
-            kept: records,
-            totals: more,
-        } => behind_kept(rt, reading, window, used, more, kept, records),
+        Ok(progress) => {
+            let more = progress.totals;
+            behind_kept(
+                rt,
+                reading,
+                window,
+                progress.used,
+                more,
+                kept,
+                progress.kept,
+            )
+        }
     }
 }
 
@@ -204,48 +177,48 @@ fn replay_part(
 fn replay_next(
     rt: &HostRuntime,
     reading: &Reading,
-    name: &[u8],
-    program: &[u8],
-    ids: &[u32],
-    addresses: &[u64],
+    filter: Filter,
     turn: Turn,
     buffer: &mut [u8],
     counts: &mut [u64],
     kept: &mut [u8],
-) -> Turn
+) -> Option<ControlFlow<Report, Turn>>
     requires { (turn.start ≤ turn.end) × (turn.end ≤ length buffer.old) }
-    ensures { (result.start ≤ result.end) × (result.end ≤ length buffer.new) }
+    ensures { TurnIn (length buffer.new) result }
 {
     let totals = turn.totals;
-    let left = stream::window_of(turn.start, turn.end);
-    let window = stream::widened(&reading.source, buffer, left, WINDOW);
+    let left = stream::Window {
+        start: turn.start,
+        end: turn.end,
+    };
+    let window = match stream::widened(&reading.source, buffer, left, WINDOW) {
+        Ok(window) => window,
+        Err(reason) => {
+            fail_reading(rt, reading.name, reason);
+            return None;
+        }
+    };
     let start = window.start;
     let end = window.end;
-    if window.failed {
-        fail_reading(rt, name, window.reason);
-        return last(How::Stopped, totals);
-    }
     if start == end {
-        return last(How::Whole, totals);
+        return Some(ControlFlow::Break(Report::Whole(totals)));
     }
     let part = replay_part(
         rt,
         reading,
-        program,
-        ids,
-        addresses,
+        filter,
         &buffer[start..end],
         totals,
         counts,
         kept,
-    );
-    let how = part.how;
-    let more = part.totals;
-    Turn {
-        how,
-        totals: more,
-        start: end - part.left,
-        end,
+    )?;
+    match part {
+        ControlFlow::Break(report) => Some(ControlFlow::Break(report)),
+        ControlFlow::Continue(part) => Some(ControlFlow::Continue(Turn {
+            totals: part.totals,
+            start: end - part.left,
+            end,
+        })),
     }
 }
 
@@ -253,44 +226,43 @@ fn replay_next(
 fn replay_all(
     rt: &HostRuntime,
     reading: &Reading,
-    name: &[u8],
-    program: &[u8],
-    ids: &[u32],
-    addresses: &[u64],
+    filter: Filter,
     begun: Turn,
     buffer: &mut [u8],
     counts: &mut [u64],
     kept: &mut [u8],
-) -> Turn
+) -> Option<Report>
     requires { (begun.start ≤ begun.end) × (begun.end ≤ length buffer.old) }
 {
     let mut turn = begun;
     for windows in 0..u64::MAX {
-        turn = replay_next(
-            rt, reading, name, program, ids, addresses, turn, buffer, counts, kept,
-        );
-        let how = turn.how;
-        let totals = turn.totals;
-        if !goes_on(how) {
-            clear_progress(&reading.shown, windows);
-            return turn;
+        let next = replay_next(rt, reading, filter, turn, buffer, counts, kept);
+        match next {
+            Some(ControlFlow::Continue(more)) => {
+                turn = more;
+                let totals = more.totals;
+                show_progress(&reading.shown, windows, totals.packets);
+            }
+            Some(ControlFlow::Break(report)) => {
+                clear_progress(&reading.shown, windows);
+                return Some(report);
+            }
+            None => {
+                clear_progress(&reading.shown, windows);
+                return None;
+            }
         }
-        show_progress(&reading.shown, windows, totals.packets);
     }
-    turn
+    None
 }
 
-fn tell(rt: &HostRuntime, turn: Turn, program: &[u8], counts: &[u64]) {
-    let how = turn.how;
-    let totals = turn.totals;
-    match how {
-        How::GoesOn => (),
-        How::Whole => report(rt, program, totals, counts),
-        How::Cut => {
+fn tell(rt: &HostRuntime, ended: Report, program: &[u8], counts: &[u64]) {
+    match ended {
+        Report::Whole(totals) => report(rt, program, totals, counts),
+        Report::Cut(totals) => {
             report(rt, program, totals, counts);
             refuse(rt, program, Refusal::BadRecord);
         }
-        How::Stopped => (),
     }
 }
 
@@ -308,10 +280,7 @@ fn room_for(out: &Option<Sink>) -> usize
 fn replay_records(
     rt: &HostRuntime,
     reading: &Reading,
-    name: &[u8],
-    program: &[u8],
-    ids: &[u32],
-    addresses: &[u64],
+    filter: Filter,
     buffer: &mut [u8],
     end: usize,
 )
@@ -321,44 +290,32 @@ fn replay_records(
         return;
     }
     let begun = Turn {
-        how: How::GoesOn,
-        totals: Totals {
-            packets: 0,
-            kept: 0,
-            dropped: 0,
-            step_limit: 0,
-            access: 0,
-            no_slot: 0,
-        },
+        totals: Totals::default(),
         start: HEADER,
         end,
     };
     let mut counts = space::for_counts();
     let mut kept = space::for_window();
     let room = room_for(&reading.out);
-    let turn = replay_all(
+    let ended = replay_all(
         rt,
         reading,
-        name,
-        program,
-        ids,
-        addresses,
+        filter,
         begun,
         buffer,
         &mut counts,
         &mut kept[..room],
     );
-    tell(rt, turn, program, &counts);
+    if let Some(ended) = ended {
+        tell(rt, ended, filter.program, &counts);
+    }
 }
 
 fn replay_ordered(
     rt: &HostRuntime,
     capture: Capture,
     order: Order,
-    name: &[u8],
-    program: &[u8],
-    ids: &[u32],
-    addresses: &[u64],
+    filter: Filter,
     buffer: &mut [u8],
     end: usize,
 )
@@ -366,53 +323,42 @@ fn replay_ordered(
 {
     let Capture {
         source,
-        page,
+        name,
         shown,
         write,
     } = capture;
-    let out = match open_kept(rt, write, name) {
-        Kept::Failed => return,
-        Kept::Nowhere => None,
-        Kept::To(file) => Some(file),
+    let out = match write {
+        None => None,
+        Some(index) => {
+            let Some(file) = open_kept(rt, index, name) else {
+                return;
+            };
+            Some(file)
+        }
     };
     let reading = Reading {
         source,
-        page,
+        name,
         order,
         shown,
         out,
     };
-    replay_records(rt, &reading, name, program, ids, addresses, buffer, end);
+    replay_records(rt, &reading, filter, buffer, end);
 }
 
-// The capture with that name: of its header first.
-pub(crate) fn replay_source(
-    rt: &HostRuntime,
-    capture: Capture,
-    name: &[u8],
-    program: &[u8],
-    ids: &[u32],
-    addresses: &[u64],
-) {
+// Of the capture its header first.
+pub(crate) fn replay_source(rt: &HostRuntime, capture: Capture, filter: Filter) {
     let mut buffer = space::for_window();
     let read = stream::fill(&capture.source, &mut buffer, 0, HEADER);
-    let end = read.end;
-    if read.failed {
-        fail_reading(rt, name, read.reason);
-        return;
-    }
+    let end = match read {
+        Ok(window) => window.end,
+        Err(reason) => {
+            fail_reading(rt, capture.name, reason);
+            return;
+        }
+    };
     match header_of(&buffer[..end]) {
-        Header::NotPcap => refuse(rt, program, Refusal::NotPcap),
-        Header::Pcap(order) => replay_ordered(
-            rt,
-            capture,
-            order,
-            name,
-            program,
-            ids,
-            addresses,
-            &mut buffer,
-            end,
-        ),
+        None => refuse(rt, filter.program, Refusal::NotPcap),
+        Some(order) => replay_ordered(rt, capture, order, filter, &mut buffer, end),
     }
 }

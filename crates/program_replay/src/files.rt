@@ -37,31 +37,18 @@ pub(crate) fn open_capture(rt: &HostRuntime, name: &[u8]) -> Option<Source> {
     }
 }
 
-// What becomes of the kept packets.
-#[derive(Drop)]
-pub enum Kept {
-    // They are not asked for.
-    Nowhere,
-    To(Sink),
-    // The file cannot be written, which standard error says.
-    Failed,
-}
-
-fn open_written(rt: &HostRuntime, name: &[u8]) -> Kept {
+fn open_written(rt: &HostRuntime, name: &[u8]) -> Option<Sink> {
     match streams::create(rt, name) {
-        Ok(file) => Kept::To(file),
+        Ok(file) => Some(file),
         Err(reason) => {
             streams::fail(rt, name, reason);
-            Kept::Failed
+            None
         }
     }
 }
 
-// The file whose name is the argument `write`. Written over the capture, it would end the reading of it.
-pub(crate) fn open_kept(rt: &HostRuntime, write: usize, capture: &[u8]) -> Kept {
-    if write == 0 {
-        return Kept::Nowhere;
-    }
+// The file whose name is the argument `write`; nothing where standard error says why. Written over the capture, it would end the reading of it.
+pub(crate) fn open_kept(rt: &HostRuntime, write: usize, capture: &[u8]) -> Option<Sink> {
     let mut name = streams::word_room();
     let n = streams::word_or_empty(rt, write, &mut name);
     if is(&name[..n], capture) {
@@ -73,7 +60,7 @@ pub(crate) fn open_kept(rt: &HostRuntime, write: usize, capture: &[u8]) -> Kept 
             b"--write would write over the capture: ",
             capture,
         );
-        return Kept::Failed;
+        return None;
     }
     open_written(rt, &name[..n])
 }

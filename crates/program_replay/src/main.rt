@@ -8,14 +8,13 @@ mod files;
 mod said;
 mod space;
 
-use capture::{Capture, replay_source};
+use capture::{Capture, Filter, replay_source};
 use files::{open_capture, terminal};
 use jit::MOST_HELPERS;
 use listing_options::filter::read_filter;
-use replay_capture::Decided;
 use replay_capture::decide::decide_replay;
 use replay_options::help::put_options;
-use replay_options::options::{Asked, read_asked};
+use replay_options::options::{Asked, Write, read_asked};
 use said::refuse;
 use space::{TABLE, for_filter};
 use streams::Sink;
@@ -46,42 +45,30 @@ fn explain(rt: &HostRuntime) {
 }
 
 // The capture is opened once the filter is known to be run.
-fn replay_opened(
-    rt: &HostRuntime,
-    asked: Asked,
-    program: &[u8],
-    ids: &[u32],
-    addresses: &[u64],
-    page: usize,
-    shown: Option<Sink>,
-) {
+fn replay_opened(rt: &HostRuntime, asked: Asked, filter: Filter, shown: Option<Sink>) {
     let mut name = streams::word_room();
     let n = streams::word_or_empty(rt, asked.capture, &mut name);
     let Some(source) = open_capture(rt, &name[..n]) else {
         return;
     };
+    let write = match asked.write {
+        Write::To(index) => Some(index),
+        Write::Nowhere | Write::Next => None,
+    };
     let capture = Capture {
         source,
-        page,
+        name: &name[..n],
         shown,
-        write: asked.write,
+        write,
     };
-    replay_source(rt, capture, &name[..n], program, ids, addresses);
+    replay_source(rt, capture, filter);
 }
 
-fn replay_filter(
-    rt: &HostRuntime,
-    asked: Asked,
-    program: &[u8],
-    ids: &[u32],
-    addresses: &[u64],
-    shown: Option<Sink>,
-) {
-    let options = asked.options;
-    let page = options.page;
-    match decide_replay(program, ids, addresses, page, TABLE) {
-        Decided::Not(refusal) => refuse(rt, program, refusal),
-        Decided::Runs => replay_opened(rt, asked, program, ids, addresses, page, shown),
+fn replay_filter(rt: &HostRuntime, asked: Asked, filter: Filter, shown: Option<Sink>) {
+    let program = filter.program;
+    match decide_replay(program, filter.ids, filter.addresses, filter.page, TABLE) {
+        Err(refusal) => refuse(rt, program, refusal),
+        Ok(()) => replay_opened(rt, asked, filter, shown),
     }
 }
 
@@ -89,12 +76,17 @@ fn replay_asked(rt: &HostRuntime, asked: Asked, ids: &[u32], addresses: &[u64]) 
     // Nothing is open yet: a terminal that is found was given.
     let shown = terminal(rt);
     let mut input = for_filter();
-    let filter = read_filter(rt, asked.filter, &mut input);
-    if filter.failed {
+    let Some(length) = read_filter(rt, asked.filter, &mut input) else {
         return;
-    }
-    let length = filter.length;
-    replay_filter(rt, asked, &input[..length], ids, addresses, shown);
+    };
+    let options = asked.options;
+    let filter = Filter {
+        program: &input[..length],
+        ids,
+        addresses,
+        page: options.page,
+    };
+    replay_filter(rt, asked, filter, shown);
 }
 
 fn main(rt: HostRuntime) {

@@ -1,5 +1,6 @@
 // A refusal in words, as `slot 3: unknown opcode 0x06 (refusal 8)`: where, why, and its number in docs/REFUSALS.md. Whoever tells
-// an operator of a refusal says this sentence; it stands here alone.
+// an operator of a refusal says this sentence; it stands here alone. A refusal is its number here, since `ndakoleem_sentence` takes one from
+// C, and any that there is has a sentence.
 
 #![tactic(auto)]
 
@@ -28,6 +29,10 @@ const MOST_HELPERS: u64 = jit::MOST_HELPERS as u64;
 
 const LONGEST_PACKET: u64 = pcap::LONGEST_PACKET as u64;
 
+// Of a number that no refusal has.
+const NO_REASON: &[u8] = b"refused for a reason that has no name";
+
+#[tactic(auto, unfolding(crate::specs::Sentences::torn))]
 fn put_torn(out: &mut [u8], at: usize, prog: &[u8], slot: usize) -> usize
     ensures { Says out at result (torn (given prog) slot) }
 {
@@ -38,27 +43,29 @@ fn put_torn(out: &mut [u8], at: usize, prog: &[u8], slot: usize) -> usize
     put_text(out, at, b"a wide load, whose second slot is not all there")
 }
 
+#[tactic(auto, unfolding(crate::specs::Sentences::bad_register))]
 fn put_bad_register(out: &mut [u8], at: usize, insn: Insn) -> usize
     ensures { Says out at result (bad_register insn) }
 {
-    let dst = insn.dst;
-    let src = insn.src;
+    let dst = u64::from(insn.dst);
+    let src = u64::from(insn.src);
     if 10 < dst {
         return put_form(
             out,
             at,
             b"register r# in the dst field, the last is r10",
-            &[dst as u64],
+            &[dst],
         );
     }
     put_form(
         out,
         at,
         b"register r# in the src field, the last is r10",
-        &[src as u64],
+        &[src],
     )
 }
 
+#[tactic(auto, unfolding(crate::specs::Sentences::no_room))]
 fn put_no_room(out: &mut [u8], at: usize, prog: &[u8], slot: usize) -> usize
     ensures { Says out at result (no_room (given prog) slot) }
 {
@@ -70,19 +77,21 @@ fn put_no_room(out: &mut [u8], at: usize, prog: &[u8], slot: usize) -> usize
 }
 
 // The slot that a jump goes to, in two's complement.
+#[tactic(auto, unfolding(crate::specs::Sentences::target_from))]
 fn target_from(slot: usize, distance: u32) -> u64
     ensures { result ≡ target_from slot distance }
 {
-    let behind = std::num::wrapping_add_u64(slot as u64, 1);
-    std::num::wrapping_add_u64(behind, extended(distance))
+    (slot as u64)
+        .wrapping_add(1)
+        .wrapping_add(extended(distance))
 }
 
+#[tactic(auto, unfolding(crate::specs::Sentences::bad_target))]
 fn put_bad_target(out: &mut [u8], at: usize, prog: &[u8], slot: usize, insn: Insn) -> usize
     ensures { Says out at result (bad_target (given prog) slot insn) }
 {
     let end = (prog.len() / INSN_SIZE) as u64;
-    let opc = insn.opc;
-    if opc == CALL {
+    if insn.opc == CALL {
         let target = target_from(slot, insn.imm);
         return put_form(
             out,
@@ -101,18 +110,14 @@ fn put_bad_target(out: &mut [u8], at: usize, prog: &[u8], slot: usize, insn: Ins
 }
 
 // 6 to 14, and 19; the others are of no slot.
+#[tactic(auto, unfolding(crate::specs::Sentences::is_of_slot))]
 fn is_of_slot(number: u8) -> bool
     ensures { result ≡ is_of_slot number }
 {
-    if number < 6 {
-        return false;
-    }
-    if 14 < number {
-        return number == 19;
-    }
-    true
+    matches!(number, 6..=14 | 19)
 }
 
+#[tactic(auto, unfolding(crate::specs::Sentences::place_of))]
 fn put_place(out: &mut [u8], at: usize, number: u8, slot: usize) -> usize
     ensures { Says out at result (place_of number slot) }
 {
@@ -123,6 +128,7 @@ fn put_place(out: &mut [u8], at: usize, number: u8, slot: usize) -> usize
 }
 
 // Refusals 1 to 5.
+#[tactic(auto, unfolding(crate::specs::Sentences::size_reason))]
 fn put_size_reason(out: &mut [u8], at: usize, prog: &[u8], number: u8) -> usize
     ensures { Says out at result (size_reason (given prog) number) }
 {
@@ -159,18 +165,18 @@ fn put_size_reason(out: &mut [u8], at: usize, prog: &[u8], number: u8) -> usize
             b"the helper lists differ in length, are longer than #, or hold an id twice",
             &[MOST_HELPERS],
         ),
-        _ => put_text(out, at, b"refused for a reason that has no name"),
+        _ => put_text(out, at, NO_REASON),
     }
 }
 
 // Refusals 8 to 12.
+#[tactic(auto, unfolding(crate::specs::Sentences::opcode_reason))]
 fn put_opcode_reason(out: &mut [u8], at: usize, number: u8, insn: Insn) -> usize
     ensures { Says out at result (opcode_reason number insn) }
 {
-    let opc = insn.opc as u64;
-    let src = insn.src as u64;
+    let opc = u64::from(insn.opc);
+    let src = u64::from(insn.src);
     let imm = insn.imm;
-    let id = imm as u64;
     match number {
         8 => put_form(out, at, b"unknown opcode 0x@", &[opc]),
         9 => put_form(out, at, b"opcode 0x@ is known and not translated", &[opc]),
@@ -180,18 +186,24 @@ fn put_opcode_reason(out: &mut [u8], at: usize, number: u8, insn: Insn) -> usize
             b"a byte swap of ~ bits, where only 16, 32 and 64 are known",
             &[extended(imm)],
         ),
-        11 => put_form(out, at, b"a call of helper #, which is not listed", &[id]),
+        11 => put_form(
+            out,
+            at,
+            b"a call of helper #, which is not listed",
+            &[u64::from(imm)],
+        ),
         12 => put_form(
             out,
             at,
             b"a call with # in the src field, where only 0 (a helper) and 1 (a local call) are known",
             &[src],
         ),
-        _ => put_text(out, at, b"refused for a reason that has no name"),
+        _ => put_text(out, at, NO_REASON),
     }
 }
 
 // Refusals 6 to 14.
+#[tactic(auto, unfolding(crate::specs::Sentences::slot_reason))]
 fn put_slot_reason(
     out: &mut [u8],
     at: usize,
@@ -212,6 +224,7 @@ fn put_slot_reason(
 }
 
 // Refusals 15 and 16, of the page's map.
+#[tactic(auto, unfolding(crate::specs::Sentences::map_reason))]
 fn put_map_reason(out: &mut [u8], at: usize, number: u8) -> usize
     ensures { Says out at result (map_reason number) }
 {
@@ -226,15 +239,16 @@ fn put_map_reason(out: &mut [u8], at: usize, number: u8) -> usize
             at,
             b"the text buffer is too short for the page's map: 30 bytes for each slot and 60 more are enough",
         ),
-        _ => put_text(out, at, b"refused for a reason that has no name"),
+        _ => put_text(out, at, NO_REASON),
     }
 }
 
 // Refusals 17 to 19, of a replay.
+#[tactic(auto, unfolding(crate::specs::Sentences::replay_reason))]
 fn put_replay_reason(out: &mut [u8], at: usize, number: u8, insn: Insn) -> usize
     ensures { Says out at result (replay_reason number insn) }
 {
-    let opc = insn.opc as u64;
+    let opc = u64::from(insn.opc);
     match number {
         17 => put_text(
             out,
@@ -253,24 +267,20 @@ fn put_replay_reason(out: &mut [u8], at: usize, number: u8, insn: Insn) -> usize
             b"opcode 0x@ is not replayed: calls, and packet loads of the modes ABS and IND, are not run",
             &[opc],
         ),
-        _ => put_text(out, at, b"refused for a reason that has no name"),
+        _ => put_text(out, at, NO_REASON),
     }
 }
 
+#[tactic(auto, unfolding(crate::specs::Sentences::reason_of))]
 fn put_reason(out: &mut [u8], at: usize, prog: &[u8], number: u8, slot: usize) -> usize
     ensures { Says out at result (reason_of (given prog) number slot) }
 {
-    if number < 6 {
-        return put_size_reason(out, at, prog, number);
+    match number {
+        0..=5 => put_size_reason(out, at, prog, number),
+        6..=14 => put_slot_reason(out, at, prog, number, slot, fields_at(prog, slot)),
+        15 | 16 => put_map_reason(out, at, number),
+        17.. => put_replay_reason(out, at, number, fields_at(prog, slot)),
     }
-    let insn = fields_at(prog, slot);
-    if 16 < number {
-        return put_replay_reason(out, at, number, insn);
-    }
-    if 14 < number {
-        return put_map_reason(out, at, number);
-    }
-    put_slot_reason(out, at, prog, number, slot, insn)
 }
 
 // The sentence for refusal `number` at `slot` of `prog`, at the start of `out`, cut where it does not fit. The answer is its length, at most
@@ -280,5 +290,5 @@ pub fn sentence(prog: &[u8], number: u8, slot: usize, out: &mut [u8]) -> usize
 {
     let next = put_place(out, 0, number, slot);
     let next = put_reason(out, next, prog, number, slot);
-    put_form(out, next, b" (refusal #)", &[number as u64])
+    put_form(out, next, b" (refusal #)", &[u64::from(number)])
 }

@@ -16,8 +16,8 @@ use Rattle.jit.specs.declared.Refusal.{Refusal as Untranslated}
 use Rattle.jit.specs.Translation as translation
 use Rattle.jit.specs.Translation.{Inputs, translation_of, slots_of}
 use Rattle.pcap.specs.Capture.{records_of, header_of, header_size}
-use Rattle.pcap.specs.declared.Header.{Header}
-use Rattle.pcap.specs.declared.Header.TheVariants.{Pcap, NotPcap}
+use Rattle.std.specs.Prelude.{Option, Some, None}
+use Rattle.pcap.specs.declared.Order.{Order}
 use Rattle.replay.specs.declared.Ended.{Ended}
 use Rattle.replay.specs.declared.Ended.TheVariants as ended
 use Rattle.replay.specs.declared.Refusal.{Refusal}
@@ -258,9 +258,9 @@ module _ (program : List ℕ) (P : Report → Type 0) (h : (packets : List (List
   told-left [] packets = h packets
   told-left (b ∷ rest) packets = h packets
 
-  told-capture : (capture : List ℕ) (o : Header) → Told P (of_capture program capture o)
-  told-capture capture NotPcap = tt
-  told-capture capture (Pcap o) = let r = records_of o (drop header_size capture) in told-left r.rest r.packets
+  told-capture : (capture : List ℕ) (o : Option Order) → Told P (of_capture program capture o)
+  told-capture capture None = tt
+  told-capture capture (Some o) = let r = records_of o (drop header_size capture) in told-left r.rest r.packets
 
 told-unless : (P : Report → Type 0) (v : Verdict) (p : Replay) → Told P p → Told P (unless_not v p)
 told-unless P runs p h = h

@@ -4,6 +4,7 @@
 -- what it leaves of the packet is as long as the packet (`packet-length`); a higher limit changes no run that ends (`higher-limit`, `in-few`).
 use mathlib.Core.Path.{◌≡◌, refl, ap, ◌∙◌, sym}
 use mathlib.Core.Bool.{Bool, true, false, ◌&&◌}
+use Rattle.std.specs.Prelude.{Option, Some, None}
 use mathlib.Core.List.{List, [], ◌∷◌}
 use Prim.Native.Nat.{ℕ, zero, suc, ◌+◌, ◌-◌, ◌≤◌, ◌<◌}
 use native.Mathlib.Nat.{suc-add}
@@ -25,7 +26,7 @@ use Rattle.ebpf.specs.declared.kind.Lookup.TheVariants.{Known, Unimplemented, Un
 use Rattle.ebpf_meaning.specs.Step.{Act, writes, branches, other, act, regs_behind}
 use Rattle.jit.specs.Translation.{slots_of}
 use Rattle.replay.specs.declared.Place.{Place}
-use Rattle.replay.specs.declared.Place.TheVariants.{Packet, Stack, Outside}
+use Rattle.replay.specs.declared.Place.TheVariants.{Packet, Stack}
 use Rattle.replay.specs.declared.Ended.{Ended}
 use Rattle.replay.specs.declared.Ended.TheVariants as ended
 use Rattle.replay.specs.Memory.{State, size_bytes}
@@ -105,17 +106,17 @@ Leaves s (ends e t) = EndsBy s e × (t ≡ s)
 Leaves s absent = Unit {0}
 
 module _ (s : State) where
-  loads-leaves : (z : Size) (dst slot : ℕ) (p : Place) → Leaves s (loads z dst slot p s)
-  loads-leaves z dst slot (Packet at) = record { registers = simp length-set; stack-bytes = refl; packet-bytes = refl }
-  loads-leaves z dst slot (Stack at) = record { registers = simp length-set; stack-bytes = refl; packet-bytes = refl }
-  loads-leaves z dst slot Outside = (tt, refl)
+  loads-leaves : (z : Size) (dst slot : ℕ) (p : Option Place) → Leaves s (loads z dst slot p s)
+  loads-leaves z dst slot (Some (Packet at)) = record { registers = simp length-set; stack-bytes = refl; packet-bytes = refl }
+  loads-leaves z dst slot (Some (Stack at)) = record { registers = simp length-set; stack-bytes = refl; packet-bytes = refl }
+  loads-leaves z dst slot None = (tt, refl)
 
-  stores-leaves : (z : Size) (value slot : ℕ) (p : Place) → Leaves s (stores z value slot p s)
-  stores-leaves z value slot (Packet at) =
+  stores-leaves : (z : Size) (value slot : ℕ) (p : Option Place) → Leaves s (stores z value slot p s)
+  stores-leaves z value slot (Some (Packet at)) =
       record { registers = refl; stack-bytes = refl; packet-bytes = length-sets s.packet at (bytes_of (size_bytes z) value) }
-  stores-leaves z value slot (Stack at) =
+  stores-leaves z value slot (Some (Stack at)) =
       record { registers = refl; stack-bytes = length-sets s.stack at (bytes_of (size_bytes z) value); packet-bytes = refl }
-  stores-leaves z value slot Outside = (tt, refl)
+  stores-leaves z value slot None = (tt, refl)
 
   behind-length : (i : Insn) (r : List ℕ) (a : Act) → length (regs_behind i r a) ≡ length r
   behind-length i r (writes v) = length-set r i.dst v

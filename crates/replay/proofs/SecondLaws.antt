@@ -1,6 +1,7 @@
 -- Which slots are second halves of wide loads. Behind a slot is one exactly where the slot begins a wide load (`opens`, `opened`), and no two stand
 -- side by side (`never-twice`); and the translator's walk over a program, which puts code to every slot that begins an instruction, passes over
 -- just these (`walk-halves`), so that it and a run agree on what is a slot.
+use Rattle.std.proofs.Common.{Option, Some, None}
 use mathlib.Core.Path.{◌≡◌, refl, ◌∙◌, sym}
 use mathlib.Core.Bool.{Bool, true, false}
 use mathlib.Core.List.{List, [], ◌∷◌, ◌++◌}
@@ -17,8 +18,6 @@ use Rattle.base.proofs.Table.{agree}
 use Rattle.ebpf.specs.Insn.{insn_at, read_at}
 use Rattle.ebpf.specs.Opcode.{kind_of}
 use Rattle.ebpf.specs.declared.insn.Insn.{Insn}
-use Rattle.ebpf.specs.declared.insn.Read.{Read}
-use Rattle.ebpf.specs.declared.insn.Read.TheVariants.{Whole, Torn}
 use Rattle.ebpf.specs.declared.kind.Kind.{Kind}
 use Rattle.ebpf.specs.declared.kind.Lookup.{Lookup}
 use Rattle.ebpf.specs.declared.kind.Lookup.TheVariants.{Known, Unimplemented, Unknown}
@@ -65,18 +64,18 @@ module _ {b : Block} where
   taken-wide m k slot i (lacks r) e = let z : ◌≡◌ {A = ℕ} 0 1 = cc in absurd (omega arith)
   taken-wide m k slot i (has v) e = cc
 
-  known-wide : (filter : Filter) (k : Lookup) (slot : ℕ) (i : Insn) (next : Read) → known filter k slot i next ≡ go b → b.wide ≡ wide_lookup k
+  known-wide : (filter : Filter) (k : Lookup) (slot : ℕ) (i : Insn) (next : Option Insn) → known filter k slot i next ≡ go b → b.wide ≡ wide_lookup k
   known-wide filter Unknown slot i next e = let z : ◌≡◌ {A = ℕ} 0 1 = cc in absurd (omega arith)
   known-wide filter Unimplemented slot i next e = let z : ◌≡◌ {A = ℕ} 0 1 = cc in absurd (omega arith)
   known-wide filter (Known k) slot i next e = taken-wide filter.mode k slot i (operand_of filter k slot i next) e
 
-  good-wide : (filter : Filter) (slot : ℕ) (i : Insn) (next : Read) (good : Bool) (r : Refusal)
+  good-wide : (filter : Filter) (slot : ℕ) (i : Insn) (next : Option Insn) (good : Bool) (r : Refusal)
       → pick good (known filter (kind_of i.opc) slot i next) (stop r) ≡ go b → b.wide ≡ wide_lookup (kind_of i.opc)
   good-wide filter slot i next true r e = known-wide filter (kind_of i.opc) slot i next e
   good-wide filter slot i next false r e = let z : ◌≡◌ {A = ℕ} 0 1 = cc in absurd (omega arith)
 
-  read_wide : (filter : Filter) (slot : ℕ) (i : Insn) (next : Read) (torn : Bool)
-      → step_read filter slot (pick torn Torn (Whole i)) next ≡ go b → b.wide ≡ wide_lookup (kind_of i.opc)
+  read_wide : (filter : Filter) (slot : ℕ) (i : Insn) (next : Option Insn) (torn : Bool)
+      → step_read filter slot (pick torn None (Some i)) next ≡ go b → b.wide ≡ wide_lookup (kind_of i.opc)
   read_wide filter slot i next true e = let z : ◌≡◌ {A = ℕ} 0 1 = cc in absurd (omega arith)
   read_wide filter slot i next false e = good-wide filter slot i next (good_registers i) _ e
 

@@ -1,6 +1,6 @@
 -- What a run sees of memory: the packet at one address, a stack of 512 bytes at another, and nothing else. An access of RFC 9669 (section 5.1)
 -- lies wholly inside one of them. Numbers stand lowest byte first, as on the processor of the page.
-use Rattle.std.specs.Prelude.{Bool, ◌&&◌, List, ℕ, ◌+◌, ◌-◌, ◌%◌, ◌^◌, leb, take, drop}
+use Rattle.std.specs.Prelude.{Bool, ◌&&◌, Option, Some, None, List, ℕ, ◌+◌, ◌-◌, ◌%◌, ◌^◌, leb, take, drop}
 use Rattle.std.proofs.lemmas.List.Edits.{sets}
 use Rattle.base.specs.Bytes.{bytes_of, join}
 use Rattle.base.specs.Pick.{pick}
@@ -9,7 +9,7 @@ use Rattle.base.specs.declared.Size.TheVariants.{S8, S16, S32, S64}
 use Rattle.base.specs.declared.Width.TheVariants.{W64}
 use Rattle.ebpf_meaning.specs.Values.{immediate}
 use Rattle.replay.specs.declared.Place.{Place}
-use Rattle.replay.specs.declared.Place.TheVariants.{Packet, Stack, Outside}
+use Rattle.replay.specs.declared.Place.TheVariants.{Packet, Stack}
 
 abbrev pub packet_at : ℕ
 packet_at = 268435456
@@ -40,10 +40,10 @@ address_of register off = (register + immediate W64 off) % 2 ^ 64
 abbrev pub within : (from bytes address size : ℕ) → Bool
 within from bytes address size = leb from address && leb (address + size) (from + bytes)
 
-unfoldable pub place_of : (packet address size : ℕ) → Place
+unfoldable pub place_of : (packet address size : ℕ) → Option Place
 place_of packet address size =
-    pick (within packet_at packet address size) (Packet (address - packet_at))
-    (pick (within stack_at stack_size address size) (Stack (address - stack_at)) Outside)
+    pick (within packet_at packet address size) (Some (Packet (address - packet_at)))
+    (pick (within stack_at stack_size address size) (Some (Stack (address - stack_at))) None)
 
 -- the number that stands at a place of an area; the area with a number put there, cut to the size
 abbrev pub loaded : Size → List ℕ → (at : ℕ) → ℕ

@@ -1,7 +1,7 @@
 -- What is reported of a capture: for every filter, page size, helper lists, table of counts and capture the packets, how the run of each ended
 -- and how often each slot ran; or one refusal. The order: the translator's refusals, then 19, then 17, then 18, which comes with what was
 -- counted before it.
-use Rattle.std.specs.Prelude.{Bool, true, false, not, List, [], ◌∷◌, ◌++◌, map, ℕ, zero, suc, ◌+◌, ◌%◌, ◌^◌, eqb, length, get_or, set, drop}
+use Rattle.std.specs.Prelude.{Bool, true, false, not, Option, Some, None, List, [], ◌∷◌, ◌++◌, map, ℕ, zero, suc, ◌+◌, ◌%◌, ◌^◌, eqb, length, get_or, set, drop}
 use Rattle.base.specs.Pick.{pick}
 use Rattle.ebpf.specs.declared.kind.Kind.TheVariants.{LdAbs, LdInd, LdDwImm, LdReg, StImm, StReg, Alu, Shift, Neg, MulDivMod, Mov, Le, Be, Ja, Jump, Call, Exit}
 use Rattle.ebpf.specs.declared.kind.Lookup.{Lookup}
@@ -9,8 +9,7 @@ use Rattle.ebpf.specs.declared.kind.Lookup.TheVariants.{Known, Unimplemented, Un
 use Rattle.jit.specs.Translation as translation
 use Rattle.jit.specs.Translation.{Filter, Inputs, Outcome, translation_of, slots_of, at}
 use Rattle.pcap.specs.Capture.{Records, records_of, header_of, header_size}
-use Rattle.pcap.specs.declared.Header.{Header}
-use Rattle.pcap.specs.declared.Header.TheVariants.{Pcap, NotPcap as NoHeader}
+use Rattle.pcap.specs.declared.Order.{Order}
 use Rattle.replay.specs.declared.Ended.{Ended}
 use Rattle.replay.specs.declared.Ended.TheVariants as ended
 use Rattle.replay.specs.declared.Refusal.{Refusal}
@@ -154,9 +153,9 @@ unless_left (b ∷ bs) r = cut r
 abbrev pub of_records : (program : List ℕ) → Records → Replay
 of_records program records = unless_left records.rest (report_of (runs_of program records.packets))
 
-abbrev pub of_capture : (program capture : List ℕ) → Header → Replay
-of_capture program capture NoHeader = no NotPcap
-of_capture program capture (Pcap order) = of_records program (records_of order (drop header_size capture))
+abbrev pub of_capture : (program capture : List ℕ) → Option Order → Replay
+of_capture program capture None = no NotPcap
+of_capture program capture (Some order) = of_records program (records_of order (drop header_size capture))
 
 abbrev pub unless_not : Verdict → Replay → Replay
 unless_not (refused r) p = no r

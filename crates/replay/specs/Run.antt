@@ -1,7 +1,7 @@
 -- A packet's run: RFC 9669's step (ebpf_meaning) with memory (Memory), from slot 0 to EXIT or to where the run is stopped. Where off of
 -- arithmetic, moves and swaps or src of a wide load means more in the RFC, the run does as the page does (docs/DIFFERENCES.md, part D): off
 -- counts as 0, and the constant is loaded.
-use Rattle.std.specs.Prelude.{Bool, false, ◌&&◌, not, List, [], ◌∷◌, ℕ, zero, suc, ◌+◌, ◌*◌, ◌^◌, ltb, eqb, length, get_or, set, replicate}
+use Rattle.std.specs.Prelude.{Bool, false, ◌&&◌, not, Option, Some, None, List, [], ◌∷◌, ℕ, zero, suc, ◌+◌, ◌*◌, ◌^◌, ltb, eqb, length, get_or, set, replicate}
 use Rattle.base.specs.Pick.{pick}
 use Rattle.base.specs.declared.Size.{Size}
 use Rattle.base.specs.declared.Width.TheVariants.{W64}
@@ -16,7 +16,7 @@ use Rattle.ebpf_meaning.specs.Values.{immediate}
 use Rattle.ebpf_meaning.specs.Step.{act, regs_behind, next_slot}
 use Rattle.jit.specs.Translation.{slots_of, good_registers, swap_bits}
 use Rattle.replay.specs.declared.Place.{Place}
-use Rattle.replay.specs.declared.Place.TheVariants.{Packet, Stack, Outside}
+use Rattle.replay.specs.declared.Place.TheVariants.{Packet, Stack}
 use Rattle.replay.specs.declared.Ended as ended
 use Rattle.replay.specs.declared.Ended.{Ended}
 use Rattle.replay.specs.declared.Ended.TheVariants.{StepLimit, Access, NoSlot}
@@ -78,17 +78,17 @@ pub data Turn : Type 0 where
 abbrev pub with_regs : State → List ℕ → State
 with_regs s r = record { regs = r; stack = s.stack; packet = s.packet }
 
-abbrev pub loads : Size → (dst slot : ℕ) → Place → State → Turn
-loads z dst slot (Packet at) s = goes (slot + 1) (with_regs s (set s.regs dst (loaded z s.packet at)))
-loads z dst slot (Stack at) s = goes (slot + 1) (with_regs s (set s.regs dst (loaded z s.stack at)))
-loads z dst slot Outside s = ends Access s
+abbrev pub loads : Size → (dst slot : ℕ) → Option Place → State → Turn
+loads z dst slot (Some (Packet at)) s = goes (slot + 1) (with_regs s (set s.regs dst (loaded z s.packet at)))
+loads z dst slot (Some (Stack at)) s = goes (slot + 1) (with_regs s (set s.regs dst (loaded z s.stack at)))
+loads z dst slot None s = ends Access s
 
-abbrev pub stores : Size → (value slot : ℕ) → Place → State → Turn
-stores z value slot (Packet at) s = goes (slot + 1) (record { regs = s.regs; stack = s.stack; packet = stored z s.packet at value })
-stores z value slot (Stack at) s = goes (slot + 1) (record { regs = s.regs; stack = stored z s.stack at value; packet = s.packet })
-stores z value slot Outside s = ends Access s
+abbrev pub stores : Size → (value slot : ℕ) → Option Place → State → Turn
+stores z value slot (Some (Packet at)) s = goes (slot + 1) (record { regs = s.regs; stack = s.stack; packet = stored z s.packet at value })
+stores z value slot (Some (Stack at)) s = goes (slot + 1) (record { regs = s.regs; stack = stored z s.stack at value; packet = s.packet })
+stores z value slot None s = ends Access s
 
-abbrev pub place_in : State → Size → (register off : ℕ) → Place
+abbrev pub place_in : State → Size → (register off : ℕ) → Option Place
 place_in s z register off = place_of (length s.packet) (address_of (get_or s.regs register 0) off) (size_bytes z)
 
 -- arithmetic, moves, swaps and jumps do as `act` says

@@ -3,6 +3,9 @@
 
 #![tactic(auto)]
 
+ghost use Rattle.replay.specs.declared.Refusal.TheVariants.{Translation};
+ghost use Rattle.std.specs.Prelude.{◌≡◌};
+
 use base::Slot;
 use jit::Refusal as Untranslated;
 
@@ -15,12 +18,11 @@ pub const STACK_SIZE: usize = 512;
 
 pub const STEP_LIMIT: u32 = 65536;
 
-// Where an access lies: wholly in the packet or wholly in the stack, so many bytes behind its start, or in neither.
+// Where an access lies that one area holds: so many bytes behind the start of the packet, or of the stack.
 #[derive(Clone, Copy)]
 pub enum Place {
     Packet(usize),
     Stack(usize),
-    Outside,
 }
 
 // How a run ends: EXIT, with what r0 then is; or it is stopped, by the step limit, by an access that lies in neither the packet nor the stack,
@@ -46,8 +48,16 @@ pub enum Refusal {
     NotModelled(Slot),
 }
 
+impl From<Untranslated> for Refusal {
+    ghost from_gives = { λ untranslated refusal. refusal ≡ Translation untranslated };
+
+    fn from(untranslated: Untranslated) -> Refusal {
+        Refusal::Translation(untranslated)
+    }
+}
+
 // How many packets there were, and how the run of each ended.
-#[derive(Clone, Copy)]
+#[derive(Clone, Copy, Default)]
 pub struct Totals {
     pub packets: u64,
     pub kept: u64,

@@ -1,12 +1,10 @@
 -- What is answered for a part of a capture and for a capture, by the verdict on the filter and by what is left behind the records.
-use Rattle.std.proofs.Common.{◌≡◌, ℕ, ◌-◌, ◌≤◌, Bool, true, false, ltb, List, [], ◌∷◌, length, take, drop, sym, refl, ap, ◌∙◌, arith, length-drop, take_all, ltb-false}
+use Rattle.std.proofs.Common.{◌≡◌, ℕ, ◌-◌, ◌≤◌, Bool, true, false, ltb, Option, Some, None, Result, Ok, Err, List, [], ◌∷◌, length, take, drop, sym, refl, ap, ◌∙◌, arith, length-drop, take_all, ltb-false}
 use Rattle.base.specs.Pick.{pick}
 use Rattle.pcap.specs.declared.Order.TheVariants.{Little, Big}
 use Rattle.jit.specs.Limits.{most_slots}
 use Rattle.jit.specs.Translation.{Inputs}
 use Rattle.pcap.specs.declared.Order.{Order}
-use Rattle.pcap.specs.declared.Header.{Header}
-use Rattle.pcap.specs.declared.Header.TheVariants.{Pcap, NotPcap as NoHeader}
 use Rattle.pcap.specs.Capture.{Records, records_of, header_of, header_size, is_magic, number_at}
 use Rattle.pcap.proofs.CaptureLaws.{rest-suffix}
 use Rattle.replay.specs.declared.Refusal.{Refusal}
@@ -15,9 +13,7 @@ use Rattle.replay.specs.declared.Totals.{Totals}
 use Rattle.replay.specs.Report as report
 use Rattle.replay.specs.Report.{Verdict, runs, refused, verdict_of, of_records, replay_of, runs_of, report_of, slots_run, tallied, added, inputs_of, unless_left}
 use Rattle.replay_run.specs.Running.{Prepared}
-use Rattle.replay_capture.specs.declared.Decided.{Decided}
-use Rattle.replay_capture.specs.declared.Decided.TheVariants.{Runs}
-use Rattle.replay_capture.specs.declared.Answer.TheVariants as answer
+use Rattle.replay_capture.specs.declared.Progress.{Progress}
 use Rattle.replay_capture.specs.declared.Report.{Report}
 use Rattle.replay_capture.specs.declared.Report.TheVariants as capture
 use Rattle.replay_capture.specs.Going.{PreparedFor}
@@ -25,8 +21,8 @@ use Rattle.replay_capture.specs.Windowed.{Lent, Windowed, Answered}
 use Rattle.replay_capture.specs.Captured.{nothing, answer_of, ran_in, Reported}
 
 -- a filter that is run has its table of codes
-pub ready : (program ids addresses : List ℕ) (page : ℕ) (counts : List ℕ) {codes : List ℕ} {r : Decided}
-    → PreparedFor (inputs_of program ids addresses page (length counts)) codes r → r ≡ Runs → most_slots ≤ length codes → Prepared codes program counts
+pub ready : (program ids addresses : List ℕ) (page : ℕ) (counts : List ℕ) {codes : List ℕ} {r : Result (Unit {0}) Refusal}
+    → PreparedFor (inputs_of program ids addresses page (length counts)) codes r → r ≡ Ok tt → most_slots ≤ length codes → Prepared codes program counts
 ready program ids addresses page counts p e h =
     record {
       coded = p.coded e;
@@ -36,12 +32,12 @@ ready program ids addresses page counts p e h =
 
 module _ (program : List ℕ) (order : Order) (window : List ℕ) (before : Lent) (v : Verdict) where
   pub window-refused : {q : Refusal} → v ≡ refused q
-      → Answered v program order window before before.counts before.copy before.kept (answer.Refused q)
+      → Answered v program order window before before.counts before.copy before.kept (Err q)
   window-refused e = rw e (refl, (refl, (refl, refl)))
 
-  pub window-ran : v ≡ runs → {counts' copy' kept' : List ℕ} {used kept : ℕ} {totals : Totals}
-      → Windowed program order window before (record { totals = totals; counts = counts'; copy = copy'; kept = kept' }) used kept
-      → Answered v program order window before counts' copy' kept' (answer.Ran used kept totals)
+  pub window-ran : v ≡ runs → {counts' copy' kept' : List ℕ} {r : Progress}
+      → Windowed program order window before (record { totals = r.totals; counts = counts'; copy = copy'; kept = kept' }) r.used r.kept
+      → Answered v program order window before counts' copy' kept' (Ok r)
   window-ran e h = rw e h
 
 -- a capture's records, all of them or up to a bad one
@@ -55,7 +51,7 @@ module _ (program : List ℕ) (order : Order) (records : List ℕ) (before after
   none (b ∷ bs) e = absurd (omega (arith, e))
 
   pub all_read : used ≡ length records
-      → Reported (of_records program (records_of order records)) before.counts after.counts (capture.Whole after.totals)
+      → Reported (of_records program (records_of order records)) before.counts after.counts (Ok (capture.Whole after.totals))
   all_read e =
       let z : (records_of order records).rest ≡ [] =
       none (records_of order records).rest (omega (arith, e, h.used_is, (rest-suffix order records).short)) in
@@ -66,7 +62,7 @@ module _ (program : List ℕ) (order : Order) (records : List ℕ) (before after
   by-rest (b ∷ bs) r n = refl
 
   pub cut_short : ¬ (used ≡ length records)
-      → Reported (of_records program (records_of order records)) before.counts after.counts (capture.Cut after.totals)
+      → Reported (of_records program (records_of order records)) before.counts after.counts (Ok (capture.Cut after.totals))
   cut_short n =
       let z = by-rest (records_of order records).rest (report_of (runs_of program (records_of order records).packets))
       (λ e. n (omega (arith, e, h.used_is))) in
@@ -74,26 +70,26 @@ module _ (program : List ℕ) (order : Order) (records : List ℕ) (before after
 
 -- a capture, by its header
 module _ (x : Inputs) (file counts : List ℕ) where
-  pub capture-refused : {q : Refusal} → verdict_of x ≡ refused q → Reported (replay_of x file) counts counts (capture.Refused q)
+  pub capture-refused : {q : Refusal} → verdict_of x ≡ refused q → Reported (replay_of x file) counts counts (Err q)
   unfolding replay_of tallied
   capture-refused e = record { answer = rw e; counts_are = rw e }
 
-  pub no_header : verdict_of x ≡ runs → header_of file ≡ NoHeader → Reported (replay_of x file) counts counts (capture.Refused NotPcap)
+  pub no_header : verdict_of x ≡ runs → header_of file ≡ None → Reported (replay_of x file) counts counts (Err NotPcap)
   unfolding replay_of tallied
   no_header e h = record { answer = rw (e, h); counts_are = rw (e, h) }
 
-  pub with-header : verdict_of x ≡ runs → {order : Order} → header_of file ≡ Pcap order → {counts' : List ℕ} {r : Report}
+  pub with-header : verdict_of x ≡ runs → {order : Order} → header_of file ≡ Some order → {counts' : List ℕ} {r : Result Report Refusal}
       → Reported (of_records x.filter.program (records_of order (drop header_size file))) counts counts' r → Reported (replay_of x file) counts counts' r
   unfolding replay_of
   with-header e h g = rw (e, h) g
 
 -- what has a header is as long as one
-pub header-there : (file : List ℕ) {order : Order} → header_of file ≡ Pcap order → header_size ≤ length file
+pub header-there : (file : List ℕ) {order : Order} → header_of file ≡ Some order → header_size ≤ length file
 unfolding header_of
 header-there file {order} e = by (ltb (length file) header_size) refl e
   where
     by : (t : Bool) → ltb (length file) header_size ≡ t
-        → pick t NoHeader (pick (is_magic (number_at Little file 0)) (Pcap Little) (pick (is_magic (number_at Big file 0)) (Pcap Big) NoHeader)) ≡ Pcap order
+        → pick t None (pick (is_magic (number_at Little file 0)) (Some Little) (pick (is_magic (number_at Big file 0)) (Some Big) None)) ≡ Some order
         → header_size ≤ length file
     by true l q = let z : ◌≡◌ {A = ℕ} 0 1 = cc in absurd (omega arith)
     by false l q = ltb-false (length file) header_size l

@@ -13,7 +13,7 @@ use Rattle.replay.specs.declared.Totals.{Totals}
 use Rattle.replay.specs.Run.{Run, run_of}
 use Rattle.replay.specs.Report.{is_kept, runs_of, report_of, slots_run, tallied, added, plus}
 use Rattle.replay.proofs.ReportLaws.{added-packet, tallied-packet, added-append, tallied-runs, alone}
-use Rattle.replay_capture.specs.declared.window.Progress.{Progress}
+use Rattle.replay_capture.specs.declared.Progress.{Progress}
 use Rattle.replay_capture.specs.Counted.{totals_of, one}
 use Rattle.replay_capture.specs.Windowed.{kept_in, kept_of, copied, Lent, SameEnd, Windowed}
 use Rattle.replay_capture.specs.Going.{packet_at, piece, wants, put_behind, KeptRecord, Gone}

@@ -1,5 +1,5 @@
 -- Wrong answers, refuted from the contracts alone. The window has one record, of a packet that the filter keeps, and three bytes of another.
-use Rattle.std.proofs.Common.{◌≡◌, ℕ, List, [], ◌∷◌, ◌++◌, length, drop, sym, refl, ap, ◌∙◌, arith}
+use Rattle.std.proofs.Common.{◌≡◌, ℕ, List, [], ◌∷◌, ◌++◌, length, drop, Result, sym, refl, ap, ◌∙◌, arith}
 use Rattle.ebpf.specs.Insn.{insn_at}
 use Rattle.ebpf.specs.Opcode.{kind_of}
 use Rattle.pcap.specs.declared.Order.TheVariants.{Little}
@@ -9,7 +9,7 @@ use Rattle.replay.specs.Memory.{place_of}
 use Rattle.replay.specs.Run.{is_second, kind_at, turn_at, run_from, run_of}
 use Rattle.replay.specs.Report.{refused, plus, tallied, report_of, runs_of, added}
 use Rattle.replay.proofs.WorkedReports.{filter}
-use Rattle.replay_capture.specs.declared.Answer.{Answer}
+use Rattle.replay_capture.specs.declared.Progress.{Progress}
 use Rattle.replay_capture.specs.Windowed.{Lent, Windowed, Answered}
 
 abbrev window : List ℕ
@@ -68,7 +68,7 @@ module _ {before after : Lent} {used kept : ℕ} (h : Windowed filter Little win
   goes_on more = (h.onward more).totals_same
 
 -- a refused filter: another answer, and something changed
-module _ {q : Refusal} (before : Lent) {counts copy kept : List ℕ} {r : Answer}
+module _ {q : Refusal} (before : Lent) {counts copy kept : List ℕ} {r : Result Progress Refusal}
     (h : Answered (refused q) filter Little window before counts copy kept r) where
   pub refused-and-counted : (counts ≡ before.counts → ⊥) → ⊥
   refused-and-counted n = n h.1.0

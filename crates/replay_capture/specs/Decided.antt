@@ -1,8 +1,8 @@
 -- The verdict on a filter (replay's Report.antt) as an answer.
+use Rattle.std.specs.Prelude.{Result, Ok, Err}
+use Rattle.replay.specs.declared.Refusal.{Refusal}
 use Rattle.replay.specs.Report.{Verdict, runs, refused}
-use Rattle.replay_capture.specs.declared.Decided.{Decided}
-use Rattle.replay_capture.specs.declared.Decided.TheVariants.{Runs, Not}
 
-abbrev pub decided_in : Verdict → Decided
-decided_in runs = Runs
-decided_in (refused r) = Not r
+abbrev pub decided_in : Verdict → Result (Unit {0}) Refusal
+decided_in runs = Ok tt
+decided_in (refused r) = Err r

@@ -1,27 +1,26 @@
 -- What the passes over a window ask and leave, over lists. Only they speak of it; the proofs join them to the contract (Windowed.antt).
-use Rattle.std.specs.Prelude.{◌≡◌, ℕ, ◌+◌, ◌-◌, ◌<◌, ◌≤◌, Bool, false, List, ◌++◌, length, take, drop, nat_le}
+use Rattle.std.specs.Prelude.{◌≡◌, ℕ, ◌+◌, ◌-◌, ◌<◌, ◌≤◌, Bool, false, Result, Ok, List, ◌++◌, length, take, drop, nat_le}
 use Rattle.base.specs.Lists.{over}
 use Rattle.base.specs.Pick.{pick}
 use Rattle.jit.specs.Limits.{most_slots}
 use Rattle.jit.specs.Translation.{Inputs, slots_of}
 use Rattle.pcap.specs.Capture.{record_size, longest_packet}
 use Rattle.replay.specs.declared.Ended.{Ended}
+use Rattle.replay.specs.declared.Refusal.{Refusal}
 use Rattle.replay.specs.Run.{Run, run_of}
 use Rattle.replay.specs.Report.{verdict_of, tallied, added, is_kept}
 use Rattle.replay_run.specs.Running.{Prepared}
 use Rattle.replay_slots.specs.Codes.{Coded}
-use Rattle.replay_capture.specs.declared.Decided.{Decided}
-use Rattle.replay_capture.specs.declared.Decided.TheVariants.{Runs}
 use Rattle.replay_capture.specs.Decided.{decided_in}
-use Rattle.replay_capture.specs.declared.window.Progress.{Progress}
+use Rattle.replay_capture.specs.declared.Progress.{Progress}
 use Rattle.replay_capture.specs.Counted.{one}
 
 -- A filter, prepared: where the filter is run, the table is its codes, it is within the limit, and there is an entry of the counts for each slot, and one
-pub record PreparedFor (x : Inputs) (codes' : List ℕ) (r : Decided) : Type 0 where
+pub record PreparedFor (x : Inputs) (codes' : List ℕ) (r : Result (Unit {0}) Refusal) : Type 0 where
   pub decided : r ≡ decided_in (verdict_of x)
-  pub coded : r ≡ Runs → Coded x.filter.program codes'
-  pub few : r ≡ Runs → slots_of x.filter.program ≤ most_slots
-  pub counts_for : r ≡ Runs → slots_of x.filter.program < x.locations
+  pub coded : r ≡ Ok tt → Coded x.filter.program codes'
+  pub few : r ≡ Ok tt → slots_of x.filter.program ≤ most_slots
+  pub counts_for : r ≡ Ok tt → slots_of x.filter.program < x.locations
 
 pub record Copied (run : Run) (counts counts' copy copy' : List ℕ) (r : Ended) : Type 0 where
   pub how : r ≡ run.how

@@ -1,22 +1,22 @@
 -- What the passes ask and leave (Going.antt), of the parameters by their names (base/specs/Lent.antt). Only they speak of it; the proofs join
 -- them to the contracts (Lent.antt).
-use Rattle.std.specs.Prelude.{ℕ, Bool, length}
+use Rattle.std.specs.Prelude.{ℕ, Bool, length, Result, Ok}
 use Rattle.base.specs.Lent.{Slice, MutSlice, Lent, MutLent}
 use Rattle.pcap.specs.declared.Order.{Order}
 use Rattle.pcap.specs.Capture.{records_of}
 use Rattle.replay.specs.declared.Ended.{Ended}
+use Rattle.replay.specs.declared.Refusal.{Refusal}
 use Rattle.replay.specs.declared.Totals.{Totals}
 use Rattle.replay.specs.Run.{run_of}
 use Rattle.replay.specs.Report.{of_records}
-use Rattle.replay_capture.specs.declared.Decided.{Decided}
 use Rattle.replay_capture.specs.declared.Report.{Report}
-use Rattle.replay_capture.specs.declared.window.Progress.{Progress}
+use Rattle.replay_capture.specs.declared.Progress.{Progress}
 use Rattle.replay_capture.specs.Lent.{inputs_in, moment}
 use Rattle.replay_capture.specs.Windowed as W
 use Rattle.replay_capture.specs.Captured as C
 use Rattle.replay_capture.specs.Going as G
 
-abbrev pub PreparedFor : (prog ids addresses : Lent) → (page counts : ℕ) → (codes : MutLent) → Decided → Type 0
+abbrev pub PreparedFor : (prog ids addresses : Lent) → (page counts : ℕ) → (codes : MutLent) → Result (Unit {0}) Refusal → Type 0
 PreparedFor prog ids addresses page counts codes r = G.PreparedFor (inputs_in prog ids addresses page counts) codes.exit.now r
 
 -- a packet, run on a copy; a record, put behind those before it
@@ -51,4 +51,4 @@ RanAll prog order window totals counts copy kept r =
 -- a capture's records
 abbrev pub Reported : (prog : Lent) → Order → (records : Lent) (counts : MutLent) → Report → Type 0
 Reported prog order records counts r =
-    C.Reported (of_records prog.entry.now (records_of order records.entry.now)) counts.entry.now counts.exit.now r
+    C.Reported (of_records prog.entry.now (records_of order records.entry.now)) counts.entry.now counts.exit.now (Ok r)

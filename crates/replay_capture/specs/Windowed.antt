@@ -1,15 +1,15 @@
 -- What is answered for a part of a capture, a window, and what is left of what is lent. Every whole record at its head is run. Window after window
 -- gives what the whole gives: whatever follows, what is left of the window and what follows comes, from the totals and the counts that are
 -- left, to what the window and what follows came to from those that were lent.
-use Rattle.std.specs.Prelude.{◌≡◌, ℕ, ◌+◌, ◌-◌, List, [], ◌∷◌, ◌++◌, length, take, drop, nat_le}
+use Rattle.std.specs.Prelude.{◌≡◌, ℕ, ◌+◌, ◌-◌, List, [], ◌∷◌, ◌++◌, length, take, drop, nat_le, Result, Ok, Err}
 use Rattle.base.specs.Lists.{over}
 use Rattle.base.specs.Pick.{pick}
 use Rattle.pcap.specs.declared.Order.{Order}
 use Rattle.pcap.specs.Capture.{Records, records_of, record_size}
+use Rattle.replay.specs.declared.Refusal.{Refusal}
 use Rattle.replay.specs.declared.Totals.{Totals}
 use Rattle.replay.specs.Run.{Run, run_of}
-use Rattle.replay_capture.specs.declared.Answer.{Answer}
-use Rattle.replay_capture.specs.declared.Answer.TheVariants.{Refused, Ran}
+use Rattle.replay_capture.specs.declared.Progress.{Progress}
 use Rattle.replay.specs.Report.{Verdict, runs, refused, is_kept, runs_of, report_of, slots_run, tallied, added}
 
 -- the records of the kept packets, as they were, of bytes that begin with the records of these packets
@@ -53,9 +53,9 @@ pub record Windowed (program : List ℕ) (order : Order) (window : List ℕ) (be
       before.totals after.totals before.counts after.counts
 
 -- .. and of any filter: an answer by the verdict on it; refused, nothing is changed
-abbrev pub Answered : Verdict → (program : List ℕ) → Order → (window : List ℕ) → (before : Lent) → (counts' copy' kept' : List ℕ) → Answer → Type 0
+abbrev pub Answered : Verdict → (program : List ℕ) → Order → (window : List ℕ) → (before : Lent) → (counts' copy' kept' : List ℕ) → Result Progress Refusal → Type 0
 Answered (refused q) program order window before counts' copy' kept' r =
-    (r ≡ Refused q) × ((counts' ≡ before.counts) × ((copy' ≡ before.copy) × (kept' ≡ before.kept)))
-Answered runs program order window before counts' copy' kept' (Refused q) = ⊥
-Answered runs program order window before counts' copy' kept' (Ran used kept totals) =
-    Windowed program order window before (record { totals = totals; counts = counts'; copy = copy'; kept = kept' }) used kept
+    (r ≡ Err q) × ((counts' ≡ before.counts) × ((copy' ≡ before.copy) × (kept' ≡ before.kept)))
+Answered runs program order window before counts' copy' kept' (Err q) = ⊥
+Answered runs program order window before counts' copy' kept' (Ok r) =
+    Windowed program order window before (record { totals = r.totals; counts = counts'; copy = copy'; kept = kept' }) r.used r.kept

@@ -5,11 +5,11 @@ ghost use Rattle.replay_run.specs.Lent.{Prepared};
 ghost use Rattle.replay_capture.specs.Lent.{Captured};
 ghost use Rattle.replay_capture.specs.PassesLent.{Reported};
 
+use crate::Report;
 use crate::decide::prepare;
 use crate::window::run_records;
-use crate::{Decided, Report};
 use jit::MOST_SLOTS;
-use pcap::{HEADER, Header, Order, header_of};
+use pcap::{HEADER, Order, header_of};
 use replay::{Refusal, Totals};
 
 // The records behind a header.
@@ -24,16 +24,9 @@ fn report(
     requires { Prepared codes prog counts × (longest_packet ≤ length copy.old) }
     ensures { Reported prog order records counts result }
 {
-    let totals = Totals {
-        packets: 0,
-        kept: 0,
-        dropped: 0,
-        step_limit: 0,
-        access: 0,
-        no_slot: 0,
-    };
     let mut kept = [0u8; 0];
-    let progress = run_records(codes, prog, order, records, totals, counts, copy, &mut kept);
+    let none = Totals::default();
+    let progress = run_records(codes, prog, order, records, none, counts, copy, &mut kept);
     let totals = progress.totals;
     if progress.used == records.len() {
         return Report::Whole(totals);
@@ -50,16 +43,14 @@ pub fn replay(
     capture: &[u8],
     counts: &mut [u64],
     copy: &mut [u8],
-) -> Report
+) -> Result<Report, Refusal>
     requires { longest_packet ≤ length copy.old }
     ensures { Captured prog ids addresses page capture counts result }
 {
     let mut codes = [0u8; MOST_SLOTS];
-    match prepare(prog, ids, addresses, page, counts.len(), &mut codes) {
-        Decided::Not(refusal) => Report::Refused(refusal),
-        Decided::Runs => match header_of(capture) {
-            Header::NotPcap => Report::Refused(Refusal::NotPcap),
-            Header::Pcap(order) => report(&codes, prog, order, &capture[HEADER..], counts, copy),
-        },
-    }
+    prepare(prog, ids, addresses, page, counts.len(), &mut codes)?;
+    let Some(order) = header_of(capture) else {
+        return Err(Refusal::NotPcap);
+    };
+    Ok(report(&codes, prog, order, &capture[HEADER..], counts, copy))
 }

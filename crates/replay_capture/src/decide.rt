@@ -3,28 +3,25 @@ ghost use Rattle.std.specs.Prelude.{◌≡◌, ◌≤◌, length};
 ghost use Rattle.jit.specs.Limits.{most_slots};
 ghost use Rattle.jit.specs.Translation.{translation_of};
 ghost use Rattle.jit_translate.specs.Translated.{verdict_in};
-ghost use Rattle.jit_walk.specs.Lent.{IsTable};
 ghost use Rattle.replay_capture.specs.Lent.{inputs_in, decided_of};
 ghost use Rattle.replay_capture.specs.PassesLent.{PreparedFor};
 
-use crate::Decided;
-use ebpf::kind;
+use ebpf::kind::Opcodes;
+use jit;
 use jit::{Flags, MOST_SLOTS, Mode};
 use jit_translate::translate;
-use jit_walk::verdict::Verdict;
 use replay::Refusal;
-use replay_slots::{Modelled, all_modelled, code_slots};
+use replay_slots::{all_modelled, code_slots};
 
 // Whether the filter is translated, of which only the table of counts is lent, by its length.
 fn translated(
-    numbers: &[u8; 256],
+    opcodes: &Opcodes,
     prog: &[u8],
     ids: &[u32],
     addresses: &[u64],
     page: usize,
     counts: usize,
-) -> Verdict
-    requires { IsTable numbers }
+) -> Result<(), jit::Refusal>
     ensures { result ≡ verdict_in (translation_of (inputs_in prog ids addresses page counts)) }
 {
     let flags = Flags {
@@ -36,7 +33,7 @@ fn translated(
         compact: false,
     };
     translate::decide_in(
-        numbers, prog, flags, mode, ids, addresses, page, counts, counts, counts, counts, counts,
+        opcodes, prog, flags, mode, ids, addresses, page, counts, counts, counts, counts, counts,
     )
 }
 
@@ -48,19 +45,16 @@ pub fn prepare(
     page: usize,
     counts: usize,
     codes: &mut [u8],
-) -> Decided
+) -> Result<(), Refusal>
     requires { most_slots ≤ length codes.old }
     ensures { PreparedFor prog ids addresses page counts codes result }
 {
-    let numbers = kind::KINDS;
-    match translated(&numbers, prog, ids, addresses, page, counts) {
-        Verdict::Not(refusal) => Decided::Not(Refusal::Translation(refusal)),
-        Verdict::Good => {
-            code_slots(&numbers, prog, codes);
-            match all_modelled(codes, prog) {
-                Modelled::All => Decided::Runs,
-                Modelled::Not(slot) => Decided::Not(Refusal::NotModelled(slot)),
-            }
+    let opcodes = Opcodes::new();
+    match translated(&opcodes, prog, ids, addresses, page, counts) {
+        Err(refusal) => Err(Refusal::from(refusal)),
+        Ok(()) => {
+            code_slots(&opcodes, prog, codes);
+            all_modelled(codes, prog)
         }
     }
 }
@@ -72,7 +66,7 @@ pub fn decide_replay(
     addresses: &[u64],
     page: usize,
     counts: usize,
-) -> Decided
+) -> Result<(), Refusal>
     ensures { result ≡ decided_of prog ids addresses page counts }
 {
     let mut codes = [0u8; MOST_SLOTS];

@@ -3,7 +3,7 @@
 
 #![tactic(auto)]
 
-use replay::{Ended, Refusal, Totals};
+use replay::Totals;
 
 pub mod capture;
 pub mod decide;
@@ -12,36 +12,18 @@ pub mod record;
 pub mod totals;
 pub mod window;
 
-// Whether a filter is run, and if not, why.
+// What a part of a capture comes to: how many bytes of it were whole records, how many bytes the records of kept packets have, and the totals with
+// its packets.
 #[derive(Clone, Copy)]
-pub enum Decided {
-    Runs,
-    Not(Refusal),
+pub struct Progress {
+    pub used: usize,
+    pub kept: usize,
+    pub totals: Totals,
 }
 
-// What is answered for a part of a capture: how many bytes of it were whole records, how many bytes the records of kept packets have, and the
-// totals with its packets.
-#[derive(Clone, Copy)]
-pub enum Answer {
-    Refused(Refusal),
-    Ran {
-        used: usize,
-        kept: usize,
-        totals: Totals,
-    },
-}
-
-// .. and for a capture: the totals; or, where a record is bad, those of the packets before it.
+// What a capture comes to: the totals; or, where a record is bad, those of the packets before it.
 #[derive(Clone, Copy)]
 pub enum Report {
-    Refused(Refusal),
     Whole(Totals),
     Cut(Totals),
-}
-
-// .. and for a packet.
-#[derive(Clone, Copy)]
-pub enum Run {
-    Refused(Refusal),
-    Ended(Ended),
 }

@@ -5,19 +5,15 @@ ghost use Rattle.replay_capture.specs.Lent.{PacketReplayed};
 
 use crate::decide::prepare;
 use crate::record::run_copy;
-use crate::{Decided, Run};
 use jit::MOST_SLOTS;
 use pcap::LONGEST_PACKET;
-use replay::Refusal;
+use replay::{Ended, Refusal};
 
 // A packet that a run can be given, and that there is room for.
 fn is_good(packet: usize, room: usize) -> bool
     ensures { result ≡ not (nat_lt longest_packet packet || nat_lt room packet) }
 {
-    if LONGEST_PACKET < packet {
-        return false;
-    }
-    packet <= room
+    packet <= LONGEST_PACKET && packet <= room
 }
 
 // The packet is run on a copy, which is left at the head of `copy` as the run leaves it. Each slot that ran adds one to its entry of `counts`.
@@ -29,17 +25,13 @@ pub fn replay_packet(
     packet: &[u8],
     copy: &mut [u8],
     counts: &mut [u64],
-) -> Run
+) -> Result<Ended, Refusal>
     ensures { PacketReplayed prog ids addresses page packet copy counts result }
 {
     let mut codes = [0u8; MOST_SLOTS];
-    match prepare(prog, ids, addresses, page, counts.len(), &mut codes) {
-        Decided::Not(refusal) => Run::Refused(refusal),
-        Decided::Runs => {
-            if !is_good(packet.len(), copy.len()) {
-                return Run::Refused(Refusal::BadRecord);
-            }
-            Run::Ended(run_copy(&codes, prog, counts, copy, packet))
-        }
+    prepare(prog, ids, addresses, page, counts.len(), &mut codes)?;
+    if !is_good(packet.len(), copy.len()) {
+        return Err(Refusal::BadRecord);
     }
+    Ok(run_copy(&codes, prog, counts, copy, packet))
 }

@@ -9,18 +9,7 @@ use replay::{Ended, Totals};
 pub fn is_kept(ended: Ended) -> bool
     ensures { result ≡ is_kept ended }
 {
-    match ended {
-        Ended::Exit(value) => value != 0,
-        Ended::StepLimit => false,
-        Ended::Access => false,
-        Ended::NoSlot => false,
-    }
-}
-
-fn up(x: u64) -> u64
-    ensures { result ≡ (x + 1) % 2 ^ 64 }
-{
-    std::num::wrapping_add_u64(x, 1)
+    matches!(ended, Ended::Exit(value) if value != 0)
 }
 
 fn exited(totals: Totals, value: u64) -> Totals
@@ -28,10 +17,10 @@ fn exited(totals: Totals, value: u64) -> Totals
 {
     let mut t = totals;
     if value == 0 {
-        t.dropped = up(t.dropped);
+        t.dropped = t.dropped.wrapping_add(1);
         return t;
     }
-    t.kept = up(t.kept);
+    t.kept = t.kept.wrapping_add(1);
     t
 }
 
@@ -42,15 +31,15 @@ fn ended_by(totals: Totals, ended: Ended) -> Totals
     match ended {
         Ended::Exit(value) => exited(t, value),
         Ended::StepLimit => {
-            t.step_limit = up(t.step_limit);
+            t.step_limit = t.step_limit.wrapping_add(1);
             t
         }
         Ended::Access => {
-            t.access = up(t.access);
+            t.access = t.access.wrapping_add(1);
             t
         }
         Ended::NoSlot => {
-            t.no_slot = up(t.no_slot);
+            t.no_slot = t.no_slot.wrapping_add(1);
             t
         }
     }
@@ -60,6 +49,6 @@ pub fn count(totals: Totals, ended: Ended) -> Totals
     ensures { result ≡ added totals (one ended) }
 {
     let mut t = ended_by(totals, ended);
-    t.packets = up(t.packets);
+    t.packets = t.packets.wrapping_add(1);
     t
 }

@@ -6,21 +6,13 @@ ghost use Rattle.replay_run.specs.Lent.{Prepared};
 ghost use Rattle.replay_capture.specs.Lent.{Windowed};
 ghost use Rattle.replay_capture.specs.PassesLent.{Keeping, KeptRecord, Going, Gone, RanAll};
 
+use crate::Progress;
 use crate::decide::prepare;
 use crate::record::{keep, run_copy};
 use crate::totals::{count, is_kept};
-use crate::{Answer, Decided};
 use jit::MOST_SLOTS;
 use pcap::{Order, RECORD, Record, record_of};
-use replay::Totals;
-
-// How far a part is run: the bytes of its records, those of the kept ones, and the totals.
-#[derive(Clone, Copy)]
-pub struct Progress {
-    pub used: usize,
-    pub kept: usize,
-    pub totals: Totals,
-}
+use replay::{Refusal, Totals};
 
 // The end of what is kept, with the record from `at` to `end`, where it is kept and there is room for all of the window.
 fn keep_record(
@@ -34,13 +26,10 @@ fn keep_record(
     requires { Keeping window at end kept length }
     ensures { KeptRecord wanted window at end kept length result }
 {
-    if !wanted {
-        return length;
+    if wanted && window.len() <= kept.len() {
+        return keep(kept, length, &window[at..end]);
     }
-    if kept.len() < window.len() {
-        return length;
-    }
-    keep(kept, length, &window[at..end])
+    length
 }
 
 // The record behind those that are used, whose packet has `n` bytes.
@@ -86,7 +75,7 @@ pub fn run_records(
     let mut progress = Progress {
         used: 0,
         kept: 0,
-        totals: totals,
+        totals,
     };
     loop {
         let at = progress.used;
@@ -94,9 +83,7 @@ pub fn run_records(
             Record::Packet(n) => {
                 progress = run_record(codes, prog, window, n, progress, counts, copy, kept)
             }
-            Record::End => return progress,
-            Record::Partial => return progress,
-            Record::TooLong => return progress,
+            Record::End | Record::Partial | Record::TooLong => return progress,
         }
     }
 }
@@ -114,21 +101,11 @@ pub fn replay_window(
     counts: &mut [u64],
     copy: &mut [u8],
     kept: &mut [u8],
-) -> Answer
+) -> Result<Progress, Refusal>
     requires { longest_packet ≤ length copy.old }
     ensures { Windowed prog ids addresses page order window totals counts copy kept result }
 {
     let mut codes = [0u8; MOST_SLOTS];
-    match prepare(prog, ids, addresses, page, counts.len(), &mut codes) {
-        Decided::Not(refusal) => Answer::Refused(refusal),
-        Decided::Runs => {
-            let progress = run_records(&codes, prog, order, window, totals, counts, copy, kept);
-            let totals = progress.totals;
-            Answer::Ran {
-                used: progress.used,
-                kept: progress.kept,
-                totals: totals,
-            }
-        }
-    }
+    prepare(prog, ids, addresses, page, counts.len(), &mut codes)?;
+    Ok(run_records(&codes, prog, order, window, totals, counts, copy, kept))
 }

@@ -2,7 +2,6 @@
 use Rattle.std.proofs.Common.{◌≡◌, ℕ, zero, suc, ◌+◌, ◌*◌, ◌^◌, ◌<◌, ◌≤◌, List, length, get_or, take, drop, refl, arith, drop-cons}
 use Rattle.base.specs.Bytes.{join}
 use Rattle.base.specs.declared.Size.{Size}
-use Rattle.base.specs.declared.Size.TheVariants.{S32, S64}
 use Rattle.replay.specs.Memory.{loaded, size_bytes}
 
 -- k bytes behind a place, as code says it
@@ -30,14 +29,3 @@ join-summed area at k (suc n) h =
 -- a load is the sum of its bytes
 pub loaded-sum : (z : Size) (area : List ℕ) (at : ℕ) → at + size_bytes z ≤ length area → loaded z area at ≡ summed area at 0 (size_bytes z)
 loaded-sum z area at h = join-summed area at 0 (size_bytes z) (omega arith)
-
--- eight bytes are two halves of four
-pub loaded-halves : (area : List ℕ) (at : ℕ) → at + 8 ≤ length area → loaded S64 area at ≡ loaded S32 area at + 2 ^ 32 * loaded S32 area (at + 4)
-loaded-halves area at h =
-    let low : at + 4 ≤ length area = omega arith in
-    let high : at + 4 + 4 ≤ length area = omega arith in
-    let e5 : at + 4 + 1 ≡ at + 5 = omega arith in
-    let e6 : at + 4 + 2 ≡ at + 6 = omega arith in
-    let e7 : at + 4 + 3 ≡ at + 7 = omega arith in
-    let upper = rw (e5, e6, e7) at (loaded-sum S32 area (at + 4) high) in
-    omega (arith, loaded-sum S64 area at h, loaded-sum S32 area at low, upper)

@@ -1,10 +1,10 @@
 -- The laws of an address and of the place where an access lies.
-use Rattle.std.proofs.Common.{◌≡◌, ℕ, ◌+◌, ◌-◌, ◌%◌, ◌^◌, ◌<◌, ◌≤◌, Bool, true, false, ◌&&◌, ltb, leb, refl, arith, ltb-false, ltb-true, le-leb, leb-false, leb-true}
+use Rattle.std.proofs.Common.{◌≡◌, ℕ, ◌+◌, ◌-◌, ◌%◌, ◌^◌, ◌<◌, ◌≤◌, Bool, true, false, ◌&&◌, Option, Some, None, ltb, leb, refl, arith, ltb-false, ltb-true, le-leb, leb-false, leb-true}
 use Rattle.base.specs.Pick.{pick}
 use Rattle.base.specs.declared.Width.TheVariants.{W64}
 use Rattle.ebpf_meaning.specs.Values.{immediate}
 use Rattle.replay.specs.declared.Place.{Place}
-use Rattle.replay.specs.declared.Place.TheVariants.{Packet, Stack, Outside}
+use Rattle.replay.specs.declared.Place.TheVariants.{Packet, Stack}
 use Rattle.replay.specs.Memory.{packet_at, stack_at, stack_size, within, place_of}
 use Rattle.replay_memory.specs.Access.{Access}
 
@@ -50,11 +50,11 @@ module _ (from bytes address size : ℕ) where
 
 -- WHERE AN ACCESS LIES, from where its address is.
 module _ (packet address size at : ℕ) where
-  pub in-packet : Lies packet_at packet address size at → place_of packet address size ≡ Packet at
+  pub in-packet : Lies packet_at packet address size at → place_of packet address size ≡ Some (Packet at)
   unfolding place_of
   in-packet l = let d : address - packet_at ≡ at = omega (arith, l.starts) in rw (within-yes packet_at packet address size l, d)
 
-  pub in_stack : Access packet size → Lies stack_at stack_size address size at → place_of packet address size ≡ Stack at
+  pub in_stack : Access packet size → Lies stack_at stack_size address size at → place_of packet address size ≡ Some (Stack at)
   unfolding place_of
   in_stack a l =
       let d : address - stack_at ≡ at = omega (arith, l.starts) in
@@ -63,28 +63,28 @@ module _ (packet address size at : ℕ) where
 
 module _ (packet address size : ℕ) where
   pub in-none : (packet_at ≤ address → address + size ≤ packet_at + packet → ⊥) → (stack_at ≤ address → address + size ≤ stack_at + stack_size → ⊥)
-      → place_of packet address size ≡ Outside
+      → place_of packet address size ≡ None
   unfolding place_of
   in-none p s = rw (within-no packet_at packet address size p, within-no stack_at stack_size address size s)
 
   -- .. and where it is from where it lies: the area holds all of it.
-  pub lies-in-packet : {at : ℕ} → place_of packet address size ≡ Packet at → Lies packet_at packet address size at
+  pub lies-in-packet : {at : ℕ} → place_of packet address size ≡ Some (Packet at) → Lies packet_at packet address size at
   unfolding place_of
   lies-in-packet {at} e = by (within packet_at packet address size) refl (within stack_at stack_size address size) e
     where
       by : (p : Bool) → within packet_at packet address size ≡ p → (s : Bool)
-          → pick p (Packet (address - packet_at)) (pick s (Stack (address - stack_at)) Outside) ≡ Packet at
+          → pick p (Some (Packet (address - packet_at))) (pick s (Some (Stack (address - stack_at))) None) ≡ Some (Packet at)
           → Lies packet_at packet address size at
       by true w s q = let d : address - packet_at ≡ at = cc in rw d at (within-lies packet_at packet address size w)
       by false w true q = let z : ◌≡◌ {A = ℕ} 0 1 = cc in absurd (omega arith)
       by false w false q = let z : ◌≡◌ {A = ℕ} 0 1 = cc in absurd (omega arith)
 
-  pub lies-in-stack : {at : ℕ} → place_of packet address size ≡ Stack at → Lies stack_at stack_size address size at
+  pub lies-in-stack : {at : ℕ} → place_of packet address size ≡ Some (Stack at) → Lies stack_at stack_size address size at
   unfolding place_of
   lies-in-stack {at} e = by (within packet_at packet address size) (within stack_at stack_size address size) refl e
     where
       by : (p s : Bool) → within stack_at stack_size address size ≡ s
-          → pick p (Packet (address - packet_at)) (pick s (Stack (address - stack_at)) Outside) ≡ Stack at
+          → pick p (Some (Packet (address - packet_at))) (pick s (Some (Stack (address - stack_at))) None) ≡ Some (Stack at)
           → Lies stack_at stack_size address size at
       by false true w q = let d : address - stack_at ≡ at = cc in rw d at (within-lies stack_at stack_size address size w)
       by true s w q = let z : ◌≡◌ {A = ℕ} 0 1 = cc in absurd (omega arith)

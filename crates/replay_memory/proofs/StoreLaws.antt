@@ -1,5 +1,7 @@
 -- The laws of a store: what was stored is loaded again, and all else is as it was.
-use Rattle.std.proofs.Common.{◌≡◌, ℕ, zero, suc, ◌+◌, ◌*◌, ◌/◌, ◌%◌, ◌^◌, ◌≤◌, List, [], ◌∷◌, ◌++◌, length, take, drop, set, sym, refl, ap, ◌∙◌, append_assoc, suc-add, zero-add, arith, length-take-le, take_at, drop-set-lt, drop_at}
+use Rattle.std.proofs.Common.{◌≡◌, ℕ, zero, suc, ◌+◌, ◌-◌, ◌*◌, ◌/◌, ◌%◌, ◌^◌, ◌≤◌, List, [], ◌∷◌, ◌++◌, length, take, drop, set, sym, refl, ap, ◌∙◌, append_assoc, suc-add, zero-add, arith, length-take-le, take_at, drop-set-lt, drop_at}
+use borrow.Rule.Slice.PartMut.{put_mid, post_of, Post-is}
+use Rattle.std.specs.Int.{w32, w64, to_le_bytes}
 use lib.Seq.{sets, length-sets, sets-eq, take-nil, take-set-le}
 use Rattle.base.specs.Bytes.{bytes_of, join}
 use Rattle.base.specs.Widths.{size_bits}
@@ -13,12 +15,33 @@ use Rattle.replay.specs.Memory.{loaded, stored, size_bytes}
 pub stored-length : (z : Size) (area : List ℕ) (at value : ℕ) → length (stored z area at value) ≡ length area
 stored-length z area at value = length-sets area at (bytes_of (size_bytes z) value)
 
--- eight bytes are two halves of four
-pub stored-halves : (area : List ℕ) (at value : ℕ) {half whole : List ℕ} → half ≡ stored S32 area at value
-    → whole ≡ stored S32 half (at + 4) (value / 2 ^ 32) → whole ≡ stored S64 area at value
-stored-halves area at value e f =
-    let up : value / 2 ^ 32 ≡ value / 256 / 256 / 256 / 256 = omega arith in
-    rw (f, e, up) (sets-append area at (bytes_of 4 value) (bytes_of 4 (value / 256 / 256 / 256 / 256)))
+-- bytes that are copied to a place are stored there
+pub copied : (z : Size) (area ys : List ℕ) (at value : ℕ) → at + size_bytes z ≤ length area → ys ≡ bytes_of (size_bytes z) value
+    → put_mid at (at + size_bytes z - at) area ys ≡ stored z area at value
+copied z area ys at value h e =
+    let n : length (bytes_of (size_bytes z) value) ≡ size_bytes z = length-bytes_of (size_bytes z) value in
+    let behind : post_of at (at + size_bytes z - at) area ≡ drop (at + size_bytes z) area = Post-is at (at + size_bytes z) area (omega arith) in
+    let all = rw n at (sets-eq (bytes_of (size_bytes z) value) area at (rw n h)) in
+    rw (e, behind) (sym (all ∙ append_assoc (take at area) (bytes_of (size_bytes z) value) (drop (at + size_bytes z) area)))
+
+-- the bytes of a number, as the library has them
+pub four-bytes : (x value : ℕ) → x ≡ value % 2 ^ 32 → to_le_bytes w32 x ≡ bytes_of 4 value
+four-bytes x value e =
+    let e0 : x % 256 ≡ value % 256 = omega arith in
+    let e1 : x / 256 % 256 ≡ value / 256 % 256 = omega arith in
+    let e2 : x / 65536 % 256 ≡ value / 256 / 256 % 256 = omega arith in
+    let e3 : x / 16777216 % 256 ≡ value / 256 / 256 / 256 % 256 = omega arith in
+    rw (e0, e1, e2, e3) refl
+
+pub eight-bytes : (value : ℕ) → to_le_bytes w64 value ≡ bytes_of 8 value
+eight-bytes value =
+    let e2 : value / 256 ^ 2 ≡ value / 256 / 256 = omega arith in
+    let e3 : value / 256 ^ 3 ≡ value / 256 / 256 / 256 = omega arith in
+    let e4 : value / 256 ^ 4 ≡ value / 256 / 256 / 256 / 256 = omega arith in
+    let e5 : value / 256 ^ 5 ≡ value / 256 / 256 / 256 / 256 / 256 = omega arith in
+    let e6 : value / 256 ^ 6 ≡ value / 256 / 256 / 256 / 256 / 256 / 256 = omega arith in
+    let e7 : value / 256 ^ 7 ≡ value / 256 / 256 / 256 / 256 / 256 / 256 / 256 = omega arith in
+    rw (e2, e3, e4, e5, e6, e7) refl
 
 -- THE SAME PLACE. The bytes of a number make it again, cut to their size; of eight, the lower half and the upper one do.
 join-half : (b0 b1 b2 b3 : ℕ) (bs : List ℕ) → join (b0 ∷ b1 ∷ b2 ∷ b3 ∷ bs) ≡ join (b0 ∷ b1 ∷ b2 ∷ b3 ∷ []) + 2 ^ 32 * join bs

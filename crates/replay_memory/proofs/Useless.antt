@@ -1,18 +1,18 @@
 -- Wrong memories: each is the definition with one part of it changed, and is refuted at an input where a filter would notice. The packet has 60
 -- bytes. `right` says that unchanged they are the definition.
-use Rattle.std.proofs.Common.{◌≡◌, ℕ, ◌+◌, ◌-◌, ◌*◌, ◌%◌, ◌^◌, Bool, ◌&&◌, leb, List, [], ◌∷◌, get_or, refl, ap, arith}
+use Rattle.std.proofs.Common.{◌≡◌, ℕ, ◌+◌, ◌-◌, ◌*◌, ◌%◌, ◌^◌, Bool, ◌&&◌, Option, Some, None, leb, List, [], ◌∷◌, get_or, refl, ap, arith}
 use lib.Seq.{sets}
 use Rattle.base.specs.Pick.{pick}
 use Rattle.base.specs.declared.Size.TheVariants.{S8, S16}
 use Rattle.replay.specs.declared.Place.{Place}
-use Rattle.replay.specs.declared.Place.TheVariants.{Packet, Stack, Outside}
+use Rattle.replay.specs.declared.Place.TheVariants.{Packet, Stack}
 use Rattle.replay.specs.Memory.{packet_at, stack_at, stack_size, address_of, within, place_of, loaded, stored}
 
 -- WHERE AN ACCESS LIES, by a test of an area and by where the stack starts.
-abbrev place_by : ((from bytes address size : ℕ) → Bool) → (stack : ℕ) → (packet address size : ℕ) → Place
+abbrev place_by : ((from bytes address size : ℕ) → Bool) → (stack : ℕ) → (packet address size : ℕ) → Option Place
 place_by inside stack packet address size =
-    pick (inside packet_at packet address size) (Packet (address - packet_at))
-    (pick (inside stack stack_size address size) (Stack (address - stack)) Outside)
+    pick (inside packet_at packet address size) (Some (Packet (address - packet_at)))
+    (pick (inside stack stack_size address size) (Some (Stack (address - stack))) None)
 
 pub right : (packet address size : ℕ) → place_by within stack_at packet address size ≡ place_of packet address size
 unfolding place_of

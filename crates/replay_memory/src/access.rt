@@ -12,14 +12,6 @@ use crate::store::store;
 use base::Size;
 use replay::Place;
 
-// What a load finds.
-#[derive(Clone, Copy)]
-pub enum Loaded {
-    Value(u64),
-    // It lies in neither area.
-    Outside,
-}
-
 fn bytes_of(z: Size) -> usize
     ensures { result ≡ size_bytes z }
 {
@@ -31,18 +23,18 @@ fn bytes_of(z: Size) -> usize
     }
 }
 
-fn load_sized(z: Size, packet: &[u8], stack: &[u8], address: u64) -> Loaded
+fn load_sized(z: Size, packet: &[u8], stack: &[u8], address: u64) -> Option<u64>
     requires { Areas (length packet.now) (length stack.now) }
     ensures { result ≡ loaded_at z packet.now stack.now (place_of (length packet.now) address (size_bytes z)) }
 {
-    match place_of(packet.len(), address, bytes_of(z)) {
-        Place::Packet(at) => Loaded::Value(load(z, packet, at)),
-        Place::Stack(at) => Loaded::Value(load(z, stack, at)),
-        Place::Outside => Loaded::Outside,
+    match place_of(packet.len(), address, bytes_of(z))? {
+        Place::Packet(at) => Some(load(z, packet, at)),
+        Place::Stack(at) => Some(load(z, stack, at)),
     }
 }
 
-pub fn load_at(z: Size, packet: &[u8], stack: &[u8], address: u64) -> Loaded
+// None where the access lies in neither area.
+pub fn load_at(z: Size, packet: &[u8], stack: &[u8], address: u64) -> Option<u64>
     requires { Areas (length packet.now) (length stack.now) }
     ensures { result ≡ loaded_at z packet.now stack.now (place_of (length packet.now) address (size_bytes z)) }
 {
@@ -59,15 +51,15 @@ fn store_sized(z: Size, packet: &mut [u8], stack: &mut [u8], address: u64, value
     ensures { StoredAt z value packet stack (place_of (length packet.old) address (size_bytes z)) result }
 {
     match place_of(packet.len(), address, bytes_of(z)) {
-        Place::Packet(at) => {
+        Some(Place::Packet(at)) => {
             store(z, packet, at, value);
             true
         }
-        Place::Stack(at) => {
+        Some(Place::Stack(at)) => {
             store(z, stack, at, value);
             true
         }
-        Place::Outside => false,
+        None => false,
     }
 }
 

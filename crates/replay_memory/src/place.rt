@@ -15,25 +15,28 @@ const HALF: u64 = 0x8000_0000;
 pub fn address(register: u64, off: u32) -> u64
     ensures { result ≡ address_of register off }
 {
-    wrapping_add_u64(register, wrapping_sub_u64((off as u64 + HALF) % ALL, HALF))
+    wrapping_add_u64(
+        register,
+        wrapping_sub_u64((u64::from(off) + HALF) % ALL, HALF),
+    )
 }
 
 // How far behind the start of an area an address lies tells, modulo 2 ^ 64, also that it does not lie ahead of it. The areas lie apart, so what
 // begins in the packet and ends behind it lies in neither.
-pub fn place_of(packet: usize, address: u64, size: usize) -> Place
+pub fn place_of(packet: usize, address: u64, size: usize) -> Option<Place>
     requires { Access packet size }
     ensures { result ≡ place_of packet address size }
 {
     let in_packet = wrapping_sub_u64(address, PACKET) as usize;
     if in_packet < packet {
         if size <= packet - in_packet {
-            return Place::Packet(in_packet);
+            return Some(Place::Packet(in_packet));
         }
-        return Place::Outside;
+        return None;
     }
     let in_stack = wrapping_sub_u64(address, STACK) as usize;
     if in_stack <= STACK_SIZE - size {
-        return Place::Stack(in_stack);
+        return Some(Place::Stack(in_stack));
     }
-    Place::Outside
+    None
 }

@@ -5,27 +5,33 @@ ghost use Rattle.replay_options.specs.Asked.{Holds};
 use crate::words::{Word, word_of};
 use listing_arguments::is;
 use listing_options::options;
-use listing_options::options::{Options, Program, unasked};
+use listing_options::options::{Next, Options, Program, unasked};
+
+// Where the kept packets are written.
+#[derive(Clone, Copy)]
+pub enum Write {
+    Nowhere,
+    // The word before this one was --write: this one names the file.
+    Next,
+    // The file whose name is this argument.
+    To(usize),
+}
 
 #[derive(Clone, Copy)]
 pub struct Asked {
     // The page's size, the helpers, and whether the help is asked for or a word is wrong.
     pub options: Options,
-    // Which arguments are the names of the filter and of the capture.
+    // Which arguments are the names of the filter and of the capture. 0, no name's place, until they are there: `named` refuses what lacks one, so
+    // an Option would be taken apart again where nothing is missing.
     pub filter: usize,
     pub capture: usize,
-    // Which is the name of the file for the kept packets; 0 where they are not written.
-    pub write: usize,
-    // The word before this one was --write.
-    write_next: bool,
+    pub write: Write,
 }
 
 fn with_options(asked: Asked, options: Options) -> Asked
     ensures { result.options ≡ options }
 {
-    let mut changed = asked;
-    changed.options = options;
-    changed
+    Asked { options, ..asked }
 }
 
 fn wronged(rt: &HostRuntime, asked: Asked, what: &[u8], word: &[u8]) -> Asked
@@ -39,7 +45,6 @@ fn wronged(rt: &HostRuntime, asked: Asked, what: &[u8], word: &[u8]) -> Asked
 fn with_name(rt: &HostRuntime, asked: Asked, index: usize, word: &[u8]) -> Asked
     ensures { (result.options.page ≡ asked.options.page) × (result.options.helpers ≡ asked.options.helpers) }
 {
-    let mut changed = asked;
     if asked.filter == 0 {
         if is(word, b"-") {
             return wronged(
@@ -49,12 +54,16 @@ fn with_name(rt: &HostRuntime, asked: Asked, index: usize, word: &[u8]) -> Asked
                 word,
             );
         }
-        changed.filter = index;
-        return changed;
+        return Asked {
+            filter: index,
+            ..asked
+        };
     }
     if asked.capture == 0 {
-        changed.capture = index;
-        return changed;
+        return Asked {
+            capture: index,
+            ..asked
+        };
     }
     wronged(rt, asked, b"a third name: ", word)
 }
@@ -62,10 +71,10 @@ fn with_name(rt: &HostRuntime, asked: Asked, index: usize, word: &[u8]) -> Asked
 fn with_write(asked: Asked, index: usize) -> Asked
     ensures { (result.options.page ≡ asked.options.page) × (result.options.helpers ≡ asked.options.helpers) }
 {
-    let mut changed = asked;
-    changed.write = index;
-    changed.write_next = false;
-    changed
+    Asked {
+        write: Write::To(index),
+        ..asked
+    }
 }
 
 // A word that other programs have too.
@@ -98,12 +107,11 @@ fn with_own(
     requires { Holds asked ids addresses }
     ensures { Holds result ids.exit addresses.exit }
 {
-    let mut changed = asked;
     match word_of(word) {
-        Word::WriteNext => {
-            changed.write_next = true;
-            changed
-        }
+        Word::WriteNext => Asked {
+            write: Write::Next,
+            ..asked
+        },
         Word::Name => with_name(rt, asked, index, word),
         Word::Foreign => wronged(
             rt,
@@ -126,14 +134,11 @@ fn with_word(
     requires { Holds asked ids addresses }
     ensures { Holds result ids.exit addresses.exit }
 {
-    if asked.write_next {
+    if matches!(asked.write, Write::Next) {
         return with_write(asked, index);
     }
     let before = asked.options;
-    if before.page_next {
-        return with_common(rt, asked, index, word, ids, addresses);
-    }
-    if before.helper_next {
+    if before.next != Next::Any {
         return with_common(rt, asked, index, word, ids, addresses);
     }
     with_own(rt, asked, index, word, ids, addresses)
@@ -174,7 +179,7 @@ fn named(rt: &HostRuntime, asked: Asked) -> Asked
 fn complete(rt: &HostRuntime, asked: Asked) -> Asked
     ensures { (result.options.page ≡ asked.options.page) × (result.options.helpers ≡ asked.options.helpers) }
 {
-    if asked.write_next {
+    if matches!(asked.write, Write::Next) {
         return wronged(rt, asked, b"the file is missing behind ", b"--write");
     }
     let before = asked.options;
@@ -198,13 +203,10 @@ pub fn read_asked(rt: &HostRuntime, ids: &mut [u32], addresses: &mut [u64]) -> A
         options: unasked(Program::Replay),
         filter: 0,
         capture: 0,
-        write: 0,
-        write_next: false,
+        write: Write::Nowhere,
     };
-    let mut i = 1;
-    while i < count {
-        asked = with_argument(rt, asked, i, ids, addresses);
-        i += 1;
+    for index in 1..count {
+        asked = with_argument(rt, asked, index, ids, addresses);
     }
     complete(rt, asked)
 }

@@ -34,6 +34,7 @@ fn sorted(word: listing_arguments::Word) -> Word
     }
 }
 
+// Word by word: of a `match` on the bytes the check leaves the last arm open (`returns-in_default`), by each of the eleven ways that lead to it.
 pub fn word_of(word: &[u8]) -> Word
     ensures { result ≡ Words·word_of (given word) }
 {

@@ -4,7 +4,6 @@ ghost use Rattle.replay_run.specs.Lent.{Running, Ran};
 
 use replay::{Ended, STEP_LIMIT};
 use replay_step::step::{Next, step};
-use std::num::wrapping_add_u64;
 
 // `codes` is the program's table of codes. A slot that ran adds one to its entry of `counts`.
 pub fn run(
@@ -20,27 +19,25 @@ pub fn run(
 {
     let n = prog.len() / 8;
     let mut slot = 0;
-    let mut left = STEP_LIMIT;
-    while 0 < left {
+    for _ in 0..STEP_LIMIT {
         if n <= slot {
             return Ended::NoSlot;
         }
         match step(codes[slot], prog, slot, regs, stack, packet) {
             Next::Go(next) => {
-                counts[slot] = wrapping_add_u64(counts[slot], 1);
+                counts[slot] = counts[slot].wrapping_add(1);
                 slot = next;
             }
             Next::Exit(value) => {
-                counts[slot] = wrapping_add_u64(counts[slot], 1);
+                counts[slot] = counts[slot].wrapping_add(1);
                 return Ended::Exit(value);
             }
             Next::Access => {
-                counts[slot] = wrapping_add_u64(counts[slot], 1);
+                counts[slot] = counts[slot].wrapping_add(1);
                 return Ended::Access;
             }
             Next::Absent => return Ended::NoSlot,
         }
-        left -= 1;
     }
     Ended::StepLimit
 }

@@ -1,8 +1,8 @@
 -- A slot's code says whether it is LD_ABS, LD_IND or CALL; and the first such slot, found slot by slot.
-use mathlib.Core.Path.{◌≡◌, refl, ◌∙◌, ap}
+use mathlib.Core.Path.{◌≡◌, refl, ◌∙◌, ap, sym}
 use mathlib.Core.Bool.{Bool, true, false, ◌&&◌, not}
 use mathlib.Core.List.{List}
-use Prim.Native.Nat.{ℕ, suc, ◌+◌, ◌-◌, ◌≤◌, ◌<◌}
+use Prim.Native.Nat.{ℕ, zero, suc, ◌+◌, ◌-◌, ◌≤◌, ◌<◌}
 use native.Mathlib.Numerals.{add-one}
 use native.Mathlib.Omega.{arith}
 use borrow.Author.Tests.{eq-eqb, ne_eqb}
@@ -72,14 +72,29 @@ module _ (program : List ℕ) (slot : ℕ) where
     one_more : n - slot ≡ suc (n - (slot + 1))
     one_more = omega arith
 
-    pub found : code_at program slot ≡ not_modelled_code → refused (NotModelled (at slot)) ≡ first_from program (n - slot) slot
+    found : code_at program slot ≡ not_modelled_code → refused (NotModelled (at slot)) ≡ first_from program (n - slot) slot
     found e = rw (one_more, ← code-says, eq-eqb (code_at program slot) not_modelled_code e)
 
-    pub passed : (code_at program slot ≡ not_modelled_code → ⊥) → first_from program (n - slot) slot ≡ first_from program (n - (slot + 1)) (slot + 1)
+    passed : (code_at program slot ≡ not_modelled_code → ⊥) → first_from program (n - slot) slot ≡ first_from program (n - (slot + 1)) (slot + 1)
     passed e = rw (one_more, ← code-says, ne_eqb (code_at program slot) not_modelled_code e, add-one)
 
-pub ended : (program : List ℕ) (n slot : ℕ) → n ≤ slot → runs ≡ first_from program (n - slot) slot
+ended : (program : List ℕ) (n slot : ℕ) → n ≤ slot → runs ≡ first_from program (n - slot) slot
 ended program n slot h = let z : n - slot ≡ 0 = omega arith in rw z
 
-pub whole : (program : List ℕ) (n : ℕ) → first_from program (n - 0) 0 ≡ first_from program n 0
+whole : (program : List ℕ) (n : ℕ) → first_from program (n - 0) 0 ≡ first_from program n 0
 whole program n = let z : n - 0 ≡ n = omega arith in rw z
+
+-- the slots ahead of one, none of which is such a slot, decide nothing
+module _ (program : List ℕ) (n : ℕ) where
+  until : (i : ℕ) → i ≤ n → ((k : ℕ) → k < i → code_at program k ≡ not_modelled_code → ⊥) → first_from program n 0 ≡ first_from program (n - i) i
+  until zero h f = sym (whole program n)
+  until (suc i) h f =
+      let s : i + 1 ≡ suc i = add-one i in
+      until i (omega arith) (λ k l. f k (omega arith)) ∙ rw s at (passed program i n (omega arith) (f i (omega arith)))
+
+  pub first-found : (i : ℕ) → i < n → code_at program i ≡ not_modelled_code → ((k : ℕ) → k < i → code_at program k ≡ not_modelled_code → ⊥)
+      → refused (NotModelled (at i)) ≡ first_from program n 0
+  first-found i h e f = found program i n h e ∙ sym (until i (omega arith) f)
+
+  pub none-found : ((k : ℕ) → k < n → code_at program k ≡ not_modelled_code → ⊥) → runs ≡ first_from program n 0
+  none-found f = ended program n n (omega arith) ∙ sym (until n (omega arith) f)

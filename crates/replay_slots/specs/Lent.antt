@@ -1,11 +1,9 @@
 -- The table of codes, of the parameters by their names (base/specs/Lent.antt).
-use Rattle.std.specs.Prelude.{ℕ}
+use Rattle.std.specs.Prelude.{ℕ, Result, Ok, Err}
 use Rattle.base.specs.Lent.{Slice, Lent, MutLent}
 use Rattle.jit.specs.Translation.{slots_of}
-use Rattle.replay.specs.declared.Refusal.TheVariants.{NotModelled}
+use Rattle.replay.specs.declared.Refusal.{Refusal}
 use Rattle.replay.specs.Report.{Verdict, runs, refused, first_from}
-use Rattle.replay_slots.specs.declared.Modelled.{Modelled}
-use Rattle.replay_slots.specs.declared.Modelled.TheVariants.{All, Not}
 use Rattle.replay_slots.specs.Codes as C
 
 abbrev pub code_in : (prog : Lent) → (slot : ℕ) → ℕ
@@ -19,9 +17,9 @@ abbrev pub IsCoded : (prog codes : Slice) → Type 0
 IsCoded prog codes = C.Coded prog.now codes.now
 
 -- the verdict that an answer tells, and that on the slots of a program (replay's Report.antt)
-abbrev pub told : Modelled → Verdict
-told All = runs
-told (Not s) = refused (NotModelled s)
+abbrev pub told : Result (Unit {0}) Refusal → Verdict
+told (Ok u) = runs
+told (Err r) = refused r
 
 abbrev pub first_of : (prog : Lent) → Verdict
 first_of prog = first_from prog.entry.now (slots_of prog.entry.now) 0

@@ -5,7 +5,6 @@
 
 ghost use Rattle.std.specs.Prelude.{◌≡◌, ◌≤◌, ◌<◌, length};
 ghost use Rattle.jit.specs.Translation.{slots_of};
-ghost use Rattle.jit_walk.specs.Lent.{IsTable};
 ghost use Rattle.replay.specs.Run.{kind_in, is_second};
 ghost use Rattle.replay_slots.specs.Codes.{code_by, code_if, code_of, opened};
 ghost use Rattle.replay_slots.specs.Lent.{code_in, Coded, IsCoded, told, first_of};
@@ -14,7 +13,9 @@ use base::Slot;
 use ebpf::constants::LD_DW_IMM;
 use ebpf::insn::{Insn, insn_at};
 use ebpf::kind;
+use ebpf::kind::Opcodes;
 use jit_walk::operand::swap_bits;
+use replay::Refusal;
 
 // The codes that are no opcode, of class LD as a wide load: nothing to run; LD_ABS, LD_IND or CALL, which are not run; EXIT.
 pub const ABSENT: u8 = 0;
@@ -51,74 +52,54 @@ fn code_by(number: u8, more: bool, i: Insn) -> u8
 }
 
 // Of a slot that is no second half.
-fn code_of(kinds: &[u8; 256], more: bool, i: Insn) -> u8
-    requires { IsTable kinds }
+fn code_of(opcodes: &Opcodes, more: bool, i: Insn) -> u8
     ensures { result ≡ code_of (kind_in more i) i.opc }
 {
-    if 10 < i.dst {
+    if 10 < i.dst || 10 < i.src {
         return ABSENT;
     }
-    if 10 < i.src {
-        return ABSENT;
-    }
-    code_by(kind::number_in(kinds, i.opc), more, i)
+    code_by(opcodes.number_of(i.opc), more, i)
 }
 
-fn code_at(kinds: &[u8; 256], prog: &[u8], slot: usize, second: bool) -> u8
-    requires { IsTable kinds × ((slot < slots_of prog.now) × (second ≡ is_second prog.now slot)) }
+fn code_at(opcodes: &Opcodes, prog: &[u8], slot: usize, second: bool) -> u8
+    requires { (slot < slots_of prog.now) × (second ≡ is_second prog.now slot) }
     ensures { result ≡ code_in prog slot }
 {
     if second {
         return ABSENT;
     }
     let more = slot + 1 < prog.len() / 8;
-    code_of(kinds, more, insn_at(prog, Slot { number: slot }))
+    code_of(opcodes, more, insn_at(prog, Slot { number: slot }))
 }
 
 // Whether the slot behind one is a second half.
-fn opens(second: bool, opcode: u8) -> bool
+pub fn opens(second: bool, opcode: u8) -> bool
     ensures { result ≡ opened second opcode }
 {
-    if second {
-        return false;
-    }
-    opcode == LD_DW_IMM
+    !second && opcode == LD_DW_IMM
 }
 
 // The table of a program, at the head of `codes`.
-pub fn code_slots(kinds: &[u8; 256], prog: &[u8], codes: &mut [u8])
-    requires { IsTable kinds × (slots_of prog.now ≤ length codes.old) }
+pub fn code_slots(opcodes: &Opcodes, prog: &[u8], codes: &mut [u8])
+    requires { slots_of prog.now ≤ length codes.old }
     ensures { Coded prog codes }
 {
     let n = prog.len() / 8;
-    let mut slot = 0;
     let mut second = false;
-    while slot < n {
-        codes[slot] = code_at(kinds, prog, slot, second);
+    for slot in 0..n {
+        codes[slot] = code_at(opcodes, prog, slot, second);
         second = opens(second, prog[8 * slot]);
-        slot += 1;
     }
 }
 
-// Whether every slot is one that a run does, and if not, which is the first.
-#[derive(Clone, Copy)]
-pub enum Modelled {
-    All,
-    Not(Slot),
-}
-
-// By the table of codes.
-pub fn all_modelled(codes: &[u8], prog: &[u8]) -> Modelled
+// Whether every slot is one that a run does, by the table of codes; if not, the first that is none.
+pub fn all_modelled(codes: &[u8], prog: &[u8]) -> Result<(), Refusal>
     requires { IsCoded prog codes × (slots_of prog.now ≤ length codes.now) }
     ensures { told result ≡ first_of prog }
 {
     let n = prog.len() / 8;
-    let mut slot = 0;
-    while slot < n {
-        if codes[slot] == NOT_MODELLED {
-            return Modelled::Not(Slot { number: slot });
-        }
-        slot += 1;
+    match codes[..n].iter().position(|code| *code == NOT_MODELLED) {
+        None => Ok(()),
+        Some(number) => Err(Refusal::NotModelled(Slot { number })),
     }
-    Modelled::All
 }

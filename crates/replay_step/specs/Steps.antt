@@ -1,5 +1,5 @@
 -- What a slot needs to be run, and what it comes to, over lists.
-use Rattle.std.specs.Prelude.{◌≡◌, ℕ, ◌+◌, ◌*◌, ◌/◌, ◌%◌, ◌^◌, ◌<◌, ◌≤◌, Bool, true, false, List, length, ◌==◌, slice_index, slice_set}
+use Rattle.std.specs.Prelude.{◌≡◌, ℕ, ◌+◌, ◌*◌, ◌/◌, ◌%◌, ◌^◌, ◌<◌, ◌≤◌, Bool, true, false, Option, Some, None, List, length, ◌==◌, slice_index, slice_set}
 use Rattle.base.specs.Pick.{pick}
 use Rattle.base.specs.declared.Size.{Size}
 use Rattle.base.specs.declared.Width.TheVariants.{W32, W64}
@@ -9,7 +9,7 @@ use Rattle.ebpf.specs.declared.insn.Insn.{Insn}
 use Rattle.ebpf_meaning.specs.Step.{dst_of, src_of}
 use Rattle.replay.specs.Memory.{State, size_bytes, address_of, place_of, loaded}
 use Rattle.replay.specs.declared.Place.{Place}
-use Rattle.replay.specs.declared.Place.TheVariants.{Packet, Stack, Outside}
+use Rattle.replay.specs.declared.Place.TheVariants.{Packet, Stack}
 use Rattle.replay.specs.declared.Ended as ended
 use Rattle.replay.specs.Run.{Turn, goes, ends, absent, turn_at}
 use Rattle.replay_memory.specs.Access.{Areas}
@@ -27,14 +27,14 @@ pub record Fetches (program : List ℕ) (slot : ℕ) (regs : List ℕ) : Type 0 
   pub src : (insn_at program slot).src < length regs
 
 -- where an access of a size lies, by a register and the slot's offset
-abbrev pub place_by : Size → Insn → (register : ℕ) → (regs packet : List ℕ) → Place
+abbrev pub place_by : Size → Insn → (register : ℕ) → (regs packet : List ℕ) → Option Place
 place_by z i register regs packet = place_of (length packet) (address_of (slice_index regs register) i.off) (size_bytes z)
 
 -- the registers behind a load
-abbrev pub regs_after : Size → (dst : ℕ) → (regs stack packet : List ℕ) → Place → List ℕ
-regs_after z dst regs stack packet (Packet at) = slice_set regs dst (loaded z packet at)
-regs_after z dst regs stack packet (Stack at) = slice_set regs dst (loaded z stack at)
-regs_after z dst regs stack packet Outside = regs
+abbrev pub regs_after : Size → (dst : ℕ) → (regs stack packet : List ℕ) → Option Place → List ℕ
+regs_after z dst regs stack packet (Some (Packet at)) = slice_set regs dst (loaded z packet at)
+regs_after z dst regs stack packet (Some (Stack at)) = slice_set regs dst (loaded z stack at)
+regs_after z dst regs stack packet None = regs
 
 -- PC += offset, from the slot behind, as `next_slot` of ebpf_meaning has it
 abbrev pub target : Insn → (slot : ℕ) → ℕ
@@ -66,14 +66,11 @@ pub record Stepped (program : List ℕ) (slot : ℕ) (s s' : State) (r : Next) :
 -- the answer that work comes to, where a jump's operands are compared
 abbrev pub finished : (code : ℕ) → Insn → (slot : ℕ) → Work → Next
 finished code i slot (work.Branch a b) = next.Go (next_by code i slot a b)
-finished code i slot (work.Go n) = next.Go n
-finished code i slot (work.Exit r0) = next.Exit r0
-finished code i slot work.Access = next.Access
-finished code i slot work.Absent = next.Absent
+finished code i slot (work.Done n) = n
 
 abbrev pub went_to : Bool → (slot : ℕ) → Work
-went_to true slot = work.Go (slot + 1)
-went_to false slot = work.Access
+went_to true slot = work.Done (next.Go (slot + 1))
+went_to false slot = work.Done next.Access
 
 -- what class ALU computes: a swap, or arithmetic at 32 bits
 abbrev pub low_by : (code : ℕ) → Insn → (regs : List ℕ) → ℕ

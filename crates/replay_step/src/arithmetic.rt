@@ -2,7 +2,7 @@
 ghost use Rattle.base.specs.Lent.{read};
 ghost use Rattle.std.specs.Prelude.{◌≡◌, ◌/◌, ◌^◌, ◌<◌, true};
 ghost use Rattle.base.specs.Widths.{bits};
-ghost use Rattle.base.specs.declared.Width.TheVariants.{W32, W64};
+ghost use Rattle.base.specs.declared.Width.TheVariants.{W64};
 ghost use Rattle.ebpf.specs.Insn.{insn_at};
 ghost use Rattle.ebpf.specs.Opcode.{source_of};
 ghost use Rattle.jit.specs.Translation.{swap_bits};
@@ -29,76 +29,43 @@ pub fn operand(w: Width, code: u8, prog: &[u8], slot: usize, src: usize, regs: &
     }
 }
 
-// By the operation, the upper half of the code. Sixteen arms, one for each value, need no test in front of their table. A function for each
-// width: each has one caller, into which LLVM puts it, and knows its width there.
-fn value_64(code: u8, a: u64, b: u64) -> u64
-    requires { (a < 2 ^ bits W64) × (b < 2 ^ bits W64) }
-    ensures { result ≡ value_by W64 (code / 16) a b }
+// By the operation, the upper half of the code. Sixteen arms, one for each value, need no test in front of their table. Put into its two callers'
+// place, it knows its width there.
+#[inline(always)]
+fn value(w: Width, code: u8, a: u64, b: u64) -> u64
+    requires { (a < 2 ^ bits w) × (b < 2 ^ bits w) }
+    ensures { result ≡ value_by w (code / 16) a b }
 {
     match code / 16 {
-        0x0 => alu(AluOp::Add, Width::W64, a, b),
-        0x1 => alu(AluOp::Sub, Width::W64, a, b),
-        0x2 => mul(MulOp::Mul, Width::W64, a, b),
-        0x3 => mul(MulOp::Div, Width::W64, a, b),
-        0x4 => alu(AluOp::Or, Width::W64, a, b),
-        0x5 => alu(AluOp::And, Width::W64, a, b),
-        0x6 => shift(ShiftOp::Lsh, Width::W64, a, b),
-        0x7 => shift(ShiftOp::Rsh, Width::W64, a, b),
-        0x8 => neg(Width::W64, a),
-        0x9 => mul(MulOp::Mod, Width::W64, a, b),
-        0xa => alu(AluOp::Xor, Width::W64, a, b),
+        0x0 => alu(AluOp::Add, w, a, b),
+        0x1 => alu(AluOp::Sub, w, a, b),
+        0x2 => mul(MulOp::Mul, w, a, b),
+        0x3 => mul(MulOp::Div, w, a, b),
+        0x4 => alu(AluOp::Or, w, a, b),
+        0x5 => alu(AluOp::And, w, a, b),
+        0x6 => shift(ShiftOp::Lsh, w, a, b),
+        0x7 => shift(ShiftOp::Rsh, w, a, b),
+        0x8 => neg(w, a),
+        0x9 => mul(MulOp::Mod, w, a, b),
+        0xa => alu(AluOp::Xor, w, a, b),
         0xb => b,
-        0xc => shift(ShiftOp::Arsh, Width::W64, a, b),
+        0xc => shift(ShiftOp::Arsh, w, a, b),
         0xd => 0,
         0xe => 0,
         _ => 0,
     }
 }
 
-fn value_32(code: u8, a: u64, b: u64) -> u64
-    requires { (a < 2 ^ bits W32) × (b < 2 ^ bits W32) }
-    ensures { result ≡ value_by W32 (code / 16) a b }
-{
-    match code / 16 {
-        0x0 => alu(AluOp::Add, Width::W32, a, b),
-        0x1 => alu(AluOp::Sub, Width::W32, a, b),
-        0x2 => mul(MulOp::Mul, Width::W32, a, b),
-        0x3 => mul(MulOp::Div, Width::W32, a, b),
-        0x4 => alu(AluOp::Or, Width::W32, a, b),
-        0x5 => alu(AluOp::And, Width::W32, a, b),
-        0x6 => shift(ShiftOp::Lsh, Width::W32, a, b),
-        0x7 => shift(ShiftOp::Rsh, Width::W32, a, b),
-        0x8 => neg(Width::W32, a),
-        0x9 => mul(MulOp::Mod, Width::W32, a, b),
-        0xa => alu(AluOp::Xor, Width::W32, a, b),
-        0xb => b,
-        0xc => shift(ShiftOp::Arsh, Width::W32, a, b),
-        0xd => 0,
-        0xe => 0,
-        _ => 0,
-    }
-}
-
-pub fn step_arithmetic_64(code: u8, prog: &[u8], slot: usize, regs: &mut [u64])
+#[inline(always)]
+pub fn step_arithmetic(w: Width, code: u8, prog: &[u8], slot: usize, regs: &mut [u64])
     requires { Fetches prog slot (read regs) }
-    ensures { Computed W64 code prog slot regs }
+    ensures { Computed w code prog slot regs }
 {
     let named = registers_of(prog, slot);
-    let b = operand(Width::W64, code, prog, slot, named.src, regs);
+    let b = operand(w, code, prog, slot, named.src, regs);
     let dst = named.dst;
-    let a = cut(Width::W64, regs[dst]);
-    regs[dst] = value_64(code, a, b);
-}
-
-pub fn step_arithmetic_32(code: u8, prog: &[u8], slot: usize, regs: &mut [u64])
-    requires { Fetches prog slot (read regs) }
-    ensures { Computed W32 code prog slot regs }
-{
-    let named = registers_of(prog, slot);
-    let b = operand(Width::W32, code, prog, slot, named.src, regs);
-    let dst = named.dst;
-    let a = cut(Width::W32, regs[dst]);
-    regs[dst] = value_32(code, a, b);
+    let a = cut(w, regs[dst]);
+    regs[dst] = value(w, code, a, b);
 }
 
 // LE, whose source is K, or BE.

@@ -18,12 +18,7 @@ const ALL: u64 = 0x1_0000;
 
 const HALF: u64 = 0x8000;
 
-fn wide(x: u8) -> u64
-    ensures { (result ≡ x) × (result < 256) }
-{
-    x as u64
-}
-
+#[tactic(auto, unfolding(ebpf::specs::Insn::insn_at))]
 pub fn dst_of(prog: &[u8], slot: usize) -> usize
     requires { 8 * slot + 8 ≤ length prog.now }
     ensures { result ≡ (insn_at prog.now slot).dst }
@@ -31,6 +26,7 @@ pub fn dst_of(prog: &[u8], slot: usize) -> usize
     (prog[8 * slot + 1] % 16) as usize
 }
 
+#[tactic(auto, unfolding(ebpf::specs::Insn::insn_at))]
 pub fn src_of(prog: &[u8], slot: usize) -> usize
     requires { 8 * slot + 8 ≤ length prog.now }
     ensures { result ≡ (insn_at prog.now slot).src }
@@ -39,17 +35,19 @@ pub fn src_of(prog: &[u8], slot: usize) -> usize
 }
 
 // The two of one byte, which is widened before it is taken apart: LLVM then makes an index of dst without a step of eight bits.
+#[tactic(auto, unfolding(ebpf::specs::Insn::insn_at))]
 pub fn registers_of(prog: &[u8], slot: usize) -> Registers
     requires { 8 * slot + 8 ≤ length prog.now }
     ensures { (result.dst ≡ (insn_at prog.now slot).dst) × (result.src ≡ (insn_at prog.now slot).src) }
 {
-    let both = wide(prog[8 * slot + 1]);
+    let both = u64::from(prog[8 * slot + 1]);
     Registers {
         dst: (both % 16) as usize,
         src: (both / 16) as usize,
     }
 }
 
+#[tactic(auto, unfolding(ebpf::specs::Insn::insn_at))]
 pub fn imm_of(prog: &[u8], slot: usize) -> u32
     requires { 8 * slot + 8 ≤ length prog.now }
     ensures { result ≡ (insn_at prog.now slot).imm }
@@ -62,9 +60,8 @@ pub fn off_of(prog: &[u8], slot: usize) -> u64
     requires { 8 * slot + 8 ≤ length prog.now }
     ensures { result ≡ immediate W64 (insn_at prog.now slot).off }
 {
-    let low = wide(prog[8 * slot + 2]);
-    let high = wide(prog[8 * slot + 3]);
-    std::num::wrapping_sub_u64((low + 256 * high + HALF) % ALL, HALF)
+    let off = u16::from_le_bytes([prog[8 * slot + 2], prog[8 * slot + 3]]);
+    ((u64::from(off) + HALF) % ALL).wrapping_sub(HALF)
 }
 
 // imm of the slot behind.

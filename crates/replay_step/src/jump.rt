@@ -45,7 +45,7 @@ pub fn target_of(prog: &[u8], slot: usize) -> usize
     ensures { result ≡ target_in prog slot }
 {
     let behind = slot as u64 + 1;
-    (std::num::wrapping_add_u64(behind, off_of(prog, slot)) % 0x1_0000_0000) as usize
+    (behind.wrapping_add(off_of(prog, slot)) % 0x1_0000_0000) as usize
 }
 
 // Where a jump goes whose operands are these.

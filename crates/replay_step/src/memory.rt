@@ -6,7 +6,7 @@ ghost use Rattle.replay_step.specs.Lent.{Fetches, Reaches, Loads, Stores, imm_in
 use crate::fetch::{dst_of, imm_of, off_of, src_of};
 use base::Width;
 use ebpf::kind::size_of;
-use replay_memory::access::{Loaded, load_at, store_at};
+use replay_memory::access::{load_at, store_at};
 use replay_values::operand::immediate;
 
 // False where the access lies outside.
@@ -22,15 +22,13 @@ pub fn step_load(
     ensures { Loads code prog slot regs stack packet result }
 {
     let src = src_of(prog, slot);
-    let address = std::num::wrapping_add_u64(regs[src], off_of(prog, slot));
-    match load_at(size_of(code), packet, stack, address) {
-        Loaded::Value(value) => {
-            let dst = dst_of(prog, slot);
-            regs[dst] = value;
-            true
-        }
-        Loaded::Outside => false,
-    }
+    let address = regs[src].wrapping_add(off_of(prog, slot));
+    let Some(value) = load_at(size_of(code), packet, stack, address) else {
+        return false;
+    };
+    let dst = dst_of(prog, slot);
+    regs[dst] = value;
+    true
 }
 
 fn store(
@@ -46,7 +44,7 @@ fn store(
     ensures { Stores code prog slot regs stack packet value result }
 {
     let dst = dst_of(prog, slot);
-    let address = std::num::wrapping_add_u64(regs[dst], off_of(prog, slot));
+    let address = regs[dst].wrapping_add(off_of(prog, slot));
     store_at(size_of(code), packet, stack, address, value)
 }
 

@@ -4,7 +4,7 @@ ghost use Rattle.std.specs.Prelude.{◌≡◌, ◌/◌, ◌%◌, ◌^◌, ◌<�
 ghost use Rattle.replay_step.specs.Steps.{went_to};
 ghost use Rattle.replay_step.specs.Lent.{Fetches, Ready, Swaps, Stepped, Worked, ComputedLow, branch_in, branch_low_in};
 
-use crate::arithmetic::{operand, step_arithmetic_32, step_arithmetic_64, step_swap};
+use crate::arithmetic::{operand, step_arithmetic, step_swap};
 use crate::fetch::{dst_of, imm_of, registers_of, upper_of};
 use crate::jump::{jump, raise};
 use crate::memory::{step_load, step_store_imm, step_store_reg};
@@ -13,7 +13,8 @@ use ebpf::constants::LD_DW_IMM;
 use replay_slots::ENDS;
 use replay_values::operand::cut;
 
-// What a slot comes to: the run goes on at a slot, or it ends, with r0, or by an access, or there is nothing to run.
+// What a slot comes to: the run goes on at a slot, or it ends, with r0, or by an access, or there is nothing to run. No Result: of the last three,
+// which end the run, Absent alone does not count the slot.
 #[derive(Clone, Copy)]
 pub enum Next {
     Go(usize),
@@ -22,14 +23,11 @@ pub enum Next {
     Absent,
 }
 
-// The same, where a jump's operands are not compared yet: they are compared in one place, whatever their width.
+// The same, or a jump whose operands are not compared yet: they are compared in one place, whatever their width.
 #[derive(Clone, Copy)]
 pub enum Work {
     Branch(u64, u64),
-    Go(usize),
-    Exit(u64),
-    Access,
-    Absent,
+    Done(Next),
 }
 
 // The operation of a byte swap, the upper half of its code.
@@ -40,9 +38,9 @@ fn went(inside: bool, slot: usize) -> Work
     ensures { result ≡ went_to inside slot }
 {
     if inside {
-        return Work::Go(slot + 1);
+        return Work::Done(Next::Go(slot + 1));
     }
-    Work::Access
+    Work::Done(Next::Access)
 }
 
 // A wide load, EXIT, or nothing to run.
@@ -60,13 +58,13 @@ fn work_special(
     match code {
         LD_DW_IMM => {
             let dst = dst_of(prog, slot);
-            let low = imm_of(prog, slot) as u64;
-            let high = upper_of(prog, slot) as u64;
+            let low = u64::from(imm_of(prog, slot));
+            let high = u64::from(upper_of(prog, slot));
             regs[dst] = low + 0x1_0000_0000 * high;
-            Work::Go(slot + 2)
+            Work::Done(Next::Go(slot + 2))
         }
-        ENDS => Work::Exit(regs[0]),
-        _ => Work::Absent,
+        ENDS => Work::Done(Next::Exit(regs[0])),
+        _ => Work::Done(Next::Absent),
     }
 }
 
@@ -78,7 +76,7 @@ fn step_alu(code: u8, prog: &[u8], slot: usize, regs: &mut [u64])
     if code / 16 == SWAP {
         step_swap(code, prog, slot, regs);
     } else {
-        step_arithmetic_32(code, prog, slot, regs);
+        step_arithmetic(Width::W32, code, prog, slot, regs);
     }
 }
 
@@ -121,13 +119,13 @@ fn work_on(
         3 => went(step_store_reg(code, prog, slot, regs, stack, packet), slot),
         4 => {
             step_alu(code, prog, slot, regs);
-            Work::Go(slot + 1)
+            Work::Done(Next::Go(slot + 1))
         }
         5 => branch(code, prog, slot, regs),
         6 => branch_low(code, prog, slot, regs),
         _ => {
-            step_arithmetic_64(code, prog, slot, regs);
-            Work::Go(slot + 1)
+            step_arithmetic(Width::W64, code, prog, slot, regs);
+            Work::Done(Next::Go(slot + 1))
         }
     }
 }
@@ -146,9 +144,6 @@ pub fn step(
 {
     match work_on(code, prog, slot, regs, stack, packet) {
         Work::Branch(a, b) => Next::Go(jump(code, prog, slot, a, b)),
-        Work::Go(next) => Next::Go(next),
-        Work::Exit(value) => Next::Exit(value),
-        Work::Access => Next::Access,
-        Work::Absent => Next::Absent,
+        Work::Done(next) => next,
     }
 }

@@ -1,16 +1,15 @@
 // The report of a replay: how many packets there were and how the run of each ended, and a row for each slot, a profile of the filter.
-ghost use Rattle.std.specs.Prelude.{◌≡◌, false, ◌-◌, ◌*◌, ◌≤◌, ◌<◌, max, length, get_or};
-ghost use Rattle.base.specs.Pick.{pick};
+ghost use Rattle.std.specs.Prelude.{◌≡◌, ◌-◌, ◌≤◌, get_or};
 ghost use Rattle.text.specs.Lent.{Says, given};
 ghost use Rattle.text.specs.Numerals.{most_digits};
 ghost use Rattle.jit.specs.Translation.{slots_of};
-ghost use Rattle.replay.specs.Run.{is_wide, opcode_at};
 ghost use Rattle.replay_text.specs.ReportText.{right_text, totals_text, row_text, row_unless, largest_of, columns_of, table_text, report_text};
 ghost use Rattle.replay_text.specs.ReportText.{Narrow};
 
-use ebpf::constants::{INSN_SIZE, LD_DW_IMM};
+use ebpf::constants::INSN_SIZE;
 use ebpf_text::put_slot;
 use replay::Totals;
+use replay_slots::opens;
 use text::digits::{MOST_DIGITS, count_decimal};
 use text::form::put_form;
 use text::number::put_decimal;
@@ -81,31 +80,16 @@ fn largest_of(counts: &[u64]) -> u64
     ensures { result ≡ largest_of (given counts) }
 {
     let mut largest = 0;
-    let mut i = 0;
-    while i < counts.len() {
-        largest = larger(largest, counts[i]);
-        i += 1;
+    for count in counts {
+        largest = largest.max(*count);
     }
     largest
-}
-
-fn larger(a: u64, b: u64) -> u64
-    ensures { result ≡ max a b }
-{
-    if a < b {
-        return b;
-    }
-    a
 }
 
 fn last_slot(prog: &[u8]) -> usize
     ensures { result ≡ slots_of (given prog) - 1 }
 {
-    let slots = prog.len() / INSN_SIZE;
-    if slots == 0 {
-        return 0;
-    }
-    slots - 1
+    (prog.len() / INSN_SIZE).saturating_sub(1)
 }
 
 // As wide as the number of the last slot, and as the largest count.
@@ -125,10 +109,7 @@ pub fn columns_of(prog: &[u8], counts: &[u64]) -> Columns
 fn count_at(counts: &[u64], slot: usize) -> u64
     ensures { result ≡ get_or (given counts) slot 0 }
 {
-    if slot < counts.len() {
-        return counts[slot];
-    }
-    0
+    counts.get(slot).copied().unwrap_or(0)
 }
 
 // The second half of a wide load has no row.
@@ -150,17 +131,6 @@ fn put_row_unless(
     put_row(out, at, prog, columns, slot, count_at(counts, slot))
 }
 
-// Whether the next slot is the second half of a wide load, where it is known whether this one is.
-fn is_second_next(prog: &[u8], slot: usize, second: bool) -> bool
-    requires { 8 * slot < length prog.now }
-    ensures { result ≡ pick second false (is_wide (opcode_at (given prog) slot)) }
-{
-    if second {
-        return false;
-    }
-    prog[8 * slot] == LD_DW_IMM
-}
-
 // A row for each slot that begins an instruction.
 pub fn put_table(out: &mut [u8], at: usize, prog: &[u8], counts: &[u64]) -> usize
     ensures { Says out at result (table_text (given prog) (given counts)) }
@@ -168,12 +138,10 @@ pub fn put_table(out: &mut [u8], at: usize, prog: &[u8], counts: &[u64]) -> usiz
     let columns = columns_of(prog, counts);
     let slots = prog.len() / INSN_SIZE;
     let mut next = at;
-    let mut slot = 0;
     let mut second = false;
-    while slot < slots {
+    for slot in 0..slots {
         next = put_row_unless(out, next, prog, columns, counts, slot, second);
-        second = is_second_next(prog, slot, second);
-        slot += 1;
+        second = opens(second, prog[8 * slot]);
     }
     next
 }

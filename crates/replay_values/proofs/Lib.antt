@@ -1,5 +1,3 @@
 -- Laws on numbers that the functions' proofs cite, by topic; each over the width where there is one.
-pub mod WidthLaws
 pub mod ShiftLaws
 pub mod SwapLaws
-pub mod ProductLaws

@@ -1,7 +1,6 @@
 -- Shifts right with the sign: what the ones that come in from above are, and that they fit above what is left.
 use Rattle.std.proofs.Common.{◌≡◌, ℕ, ◌+◌, ◌-◌, ◌*◌, ◌/◌, ◌^◌, ◌<◌, ◌≤◌, Bool, true, false, arith, pow_pos, pow_mono, shr_lt, le-leb}
 use lib.Pow.{shr_le, ones_split, ones_lt, high}
-use borrow.Author.Tests.{lt-leb}
 use Rattle.base.specs.Pick.{pick}
 use Rattle.base.specs.Widths.{bits}
 use Rattle.base.specs.declared.Width.{Width}
@@ -9,10 +8,6 @@ use Rattle.base.specs.declared.Width.TheVariants.{W32, W64}
 use Rattle.ebpf_meaning.specs.Values.{negative}
 
 -- half of the range tells the sign
-pub not_negative : (w : Width) (a : ℕ) → a < 2 ^ (bits w - 1) → negative w a ≡ false
-not_negative W32 a h = lt-leb (2 ^ 32) (2 * a) (omega arith)
-not_negative W64 a h = lt-leb (2 ^ 64) (2 * a) (omega arith)
-
 pub is_negative : (w : Width) (a : ℕ) → 2 ^ (bits w - 1) ≤ a → negative w a ≡ true
 is_negative W32 a h = le-leb (2 ^ 32) (2 * a) (omega arith)
 is_negative W64 a h = le-leb (2 ^ 64) (2 * a) (omega arith)
@@ -43,11 +38,7 @@ fits w a c g h = by (negative w a)
     by true = over (bits w) c g a h
     by false = omega (arith, shr_le a c)
 
--- a number of a width is one of 64 bits, and so is a count of it
+-- a number of a width is one of 64 bits
 pub word : (w : Width) {x : ℕ} → x < 2 ^ bits w → x < 2 ^ 64
 word W32 h = omega arith
 word W64 h = h
-
-pub count_word : (w : Width) {x : ℕ} → x < bits w → x < 64
-count_word W32 h = omega arith
-count_word W64 h = h

@@ -21,9 +21,10 @@ pub fn half(w: Width) -> u64
 pub fn signed(w: Width, a: u64) -> u64
     ensures { result ≡ Values·signed w a }
 {
-    cut(w, std::num::wrapping_add_u64(a, half(w)))
+    cut(w, a.wrapping_add(half(w)))
 }
 
+#[tactic(auto, unfolding(ebpf_meaning::specs::Values::met))]
 pub fn met(c: Condition, w: Width, a: u64, b: u64) -> bool
     ensures { result ≡ Values·met c w a b }
 {

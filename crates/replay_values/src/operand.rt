@@ -20,10 +20,7 @@ pub fn immediate(w: Width, imm: u32) -> u64
     ensures { (result ≡ Values·immediate w imm) × (result < 2 ^ bits w) }
 {
     match w {
-        Width::W32 => imm as u64,
-        Width::W64 => std::num::wrapping_sub_u64(
-            (imm as u64 + 0x8000_0000) % 0x1_0000_0000,
-            0x8000_0000,
-        ),
+        Width::W32 => u64::from(imm),
+        Width::W64 => { ((u64::from(imm) + 0x8000_0000) % 0x1_0000_0000).wrapping_sub(0x8000_0000) }
     }
 }

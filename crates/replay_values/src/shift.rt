@@ -40,6 +40,7 @@ pub fn fill(w: Width, a: u64, by: u64) -> u64
     all - (all >> by)
 }
 
+#[tactic(auto, unfolding(ebpf_meaning::specs::Values::shift_value))]
 pub fn shift(op: ShiftOp, w: Width, a: u64, b: u64) -> u64
     requires { a < 2 ^ bits w }
     ensures { result ≡ shift_value op w a b }

@@ -1,6 +1,6 @@
 // Byte swaps: RFC 9669, section 4.2, on a host whose byte order is little-endian.
-ghost use Rattle.std.specs.Prelude.{◌≡◌, ◌^◌, ◌<◌, true};
-ghost use Rattle.ebpf_meaning.specs.Values.{le_value, be_value, reversed};
+ghost use Rattle.std.specs.Prelude.{◌≡◌, true};
+ghost use Rattle.ebpf_meaning.specs.Values.{le_value, be_value};
 ghost use Rattle.jit.specs.Translation.{swap_bits};
 
 // For any width, so that a caller need not know that it is 16, 32 or 64.
@@ -13,27 +13,10 @@ pub fn le(width: u32, a: u64) -> u64
     a
 }
 
-// The four lowest bytes turned round.
-pub fn reversed4(a: u64) -> u64
-    ensures { (result ≡ reversed 4 a) × (result < 2 ^ 32) }
-{
-    a % 256 * 0x100_0000
-        + a / 0x100 % 256 * 0x1_0000
-        + a / 0x1_0000 % 256 * 0x100
-        + a / 0x100_0000 % 256
-}
-
-// All eight bytes turned round.
-pub fn reversed8(a: u64) -> u64
-    ensures { result ≡ reversed 8 a }
-{
-    reversed4(a) * 0x1_0000_0000 + reversed4(a / 0x1_0000_0000)
-}
-
 // The lowest bytes turned round are the highest of all eight turned round.
 pub fn be(width: u32, a: u64) -> u64
     requires { swap_bits width ≡ true }
     ensures { result ≡ be_value width a }
 {
-    reversed8(a) >> (64 - width)
+    a.swap_bytes() >> (64 - width)
 }

@@ -9,6 +9,7 @@ ghost use Rattle.std.specs.Io.{ReadsAtMost};
 use std::env::{Env, FillError};
 use std::fs::{File, OpenOptions};
 use std::io::{IsTerminal, Read, Stderr, Stdin, Stdout, Write};
+use std::str::Utf8Error;
 use std::{fs, io, str};
 
 // Why the system did not do what it was asked: its number of the error.
@@ -22,9 +23,6 @@ const UNKNOWN: i32 = 5;
 
 // A name has to be UTF-8: an invalid or incomplete multibyte or wide character.
 const NO_TEXT: i32 = 84;
-
-// Where nothing went wrong: success.
-pub const NO_REASON: Reason = Reason { number: 0 };
 
 // The longest word of the command line that is read whole.
 pub const LONGEST_WORD: usize = 4096;
@@ -44,10 +42,18 @@ pub enum Sink {
     Named(File),
 }
 
-fn reason_of(error: io::Error) -> Reason {
-    match error.raw_os_error() {
-        Some(number) => Reason { number },
-        None => Reason { number: UNKNOWN },
+impl From<io::Error> for Reason {
+    fn from(error: io::Error) -> Reason {
+        Reason {
+            number: error.raw_os_error().unwrap_or(UNKNOWN),
+        }
+    }
+}
+
+// A name that is no text names no file.
+impl From<Utf8Error> for Reason {
+    fn from(_error: Utf8Error) -> Reason {
+        Reason { number: NO_TEXT }
     }
 }
 
@@ -61,10 +67,7 @@ pub fn word_room() -> [u8; LONGEST_WORD]
 // Whether the command line has a word of that number. Word 0 is the program's name.
 fn is_word(rt: &HostRuntime, index: usize) -> bool {
     let mut first = [0u8; 1];
-    match rt.arg(index, &mut first) {
-        Err(FillError::NotPresent) => false,
-        _ => true,
-    }
+    !matches!(rt.arg(index, &mut first), Err(FillError::NotPresent))
 }
 
 // How many words the command line has, the program's name among them.
@@ -81,20 +84,14 @@ pub fn word_count(rt: &HostRuntime) -> usize {
 pub fn read_word(rt: &HostRuntime, index: usize, word: &mut [u8]) -> Option<usize>
     ensures { IfSome result (λ n. n ≤ length word.new) }
 {
-    match rt.arg(index, word) {
-        Ok(n) => Some(n),
-        Err(_) => None,
-    }
+    rt.arg(index, word).ok()
 }
 
 // The same, where a word that is not there or is longer than `word` is as an empty one.
 pub fn word_or_empty(rt: &HostRuntime, index: usize, word: &mut [u8]) -> usize
     ensures { result ≤ length word.new }
 {
-    match read_word(rt, index, word) {
-        Some(n) => n,
-        None => 0,
-    }
+    read_word(rt, index, word).unwrap_or(0)
 }
 
 pub fn input(rt: &HostRuntime) -> Source {
@@ -111,24 +108,12 @@ pub fn errors(rt: &HostRuntime) -> Sink {
 
 // The file of that name, for reading.
 pub fn open(rt: &HostRuntime, name: &[u8]) -> Result<Source, Reason> {
-    let Ok(text) = str::from_utf8(name) else {
-        return Err(Reason { number: NO_TEXT });
-    };
-    match fs::open(rt, text) {
-        Ok(file) => Ok(Source::Named(file)),
-        Err(error) => Err(reason_of(error)),
-    }
+    Ok(Source::Named(fs::open(rt, str::from_utf8(name)?)?))
 }
 
 // The file of that name, for writing: it is made, or emptied where it is there.
 pub fn create(rt: &HostRuntime, name: &[u8]) -> Result<Sink, Reason> {
-    let Ok(text) = str::from_utf8(name) else {
-        return Err(Reason { number: NO_TEXT });
-    };
-    match fs::create(rt, text) {
-        Ok(file) => Ok(Sink::Named(file)),
-        Err(error) => Err(reason_of(error)),
-    }
+    Ok(Sink::Named(fs::create(rt, str::from_utf8(name)?)?))
 }
 
 // Standard error, where it is a terminal.
@@ -142,15 +127,15 @@ pub fn terminal_of_errors(rt: &HostRuntime) -> Option<Sink> {
 
 // The terminal of that name, where it is one.
 pub fn terminal_named(rt: &HostRuntime, name: &str) -> Option<Sink> {
-    match OpenOptions::new().read(true).write(true).open(rt, name) {
-        Ok(file) => {
-            if file.is_terminal() {
-                return Some(Sink::Named(file));
-            }
-            None
-        }
-        Err(_) => None,
+    let file = OpenOptions::new()
+        .read(true)
+        .write(true)
+        .open(rt, name)
+        .ok()?;
+    if file.is_terminal() {
+        return Some(Sink::Named(file));
     }
+    None
 }
 
 // The next bytes, at the start of `buffer`, and how many they are: none at the end, and where `buffer` is empty.
@@ -167,10 +152,7 @@ pub fn read(from: &Source, buffer: &mut [u8]) -> Result<usize, Reason>
             reader.read(buffer)
         }
     };
-    match got {
-        Ok(n) => Ok(n),
-        Err(error) => Err(reason_of(error)),
-    }
+    Ok(got?)
 }
 
 // All of the bytes, or some of them where that fails.
@@ -189,10 +171,7 @@ pub fn write(to: &Sink, bytes: &[u8]) -> Result<(), Reason> {
             Write::write_all(&mut writer, bytes)
         }
     };
-    match done {
-        Ok(()) => Ok(()),
-        Err(error) => Err(reason_of(error)),
-    }
+    Ok(done?)
 }
 
 // On standard output; what cannot be written is let go.

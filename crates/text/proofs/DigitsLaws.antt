@@ -365,8 +365,8 @@ module _ {n digits largest : ℕ} (w : Widening n digits largest) (small : n < 2
           below = many-hex digits n short-of-most (omega (arith, w.power));
         })
 
-  pub widened : n ≤ largest → ((0 < digits) × (largest + 1 ≡ 16 ^ digits)) × (digits ≡ length (hex n))
-  widened h = ((w.some, w.power), omega (arith, w.below, enough-hex digits w.some (omega (arith, w.power))))
+  pub widened : n ≤ largest → digits ≡ length (hex n)
+  widened h = omega (arith, w.below, enough-hex digits w.some (omega (arith, w.power)))
     where
       enough-hex : (k : ℕ) → 0 < k → n < 16 ^ k → length (hex n) ≤ k
       enough-hex zero p f = absurd (omega arith)

@@ -6,12 +6,17 @@ use native.Mathlib.Omega.{arith}
 use lib.Dec.{ltb}
 use lib.ListN.{length, length-append}
 use borrow.Author.Tests.{lt-ltb, le-ltb, ltb-true, ltb-false}
-use mathlib.Core.Bool.{Bool, true, false}
+use mathlib.Core.Bool.{Bool, true, false, true≢false}
+use lib.IntN.{pos, negsuc}
+use lib.Signed.{lt_z}
+use mir.Syntax.{w64}
+use mir.Val.{sel, to_z}
+use Rattle.std.specs.Int.RustNames.{unsigned_abs}
 use native.Mathlib.Nat.{pow-zero, pow-suc, one-le-pow, mul-le-mul_right, mod-lt, div-lt_iff_lt-mul, le-div_iff_mul-le, div-add-mod'}
 use Rattle.base.specs.Pick.{pick}
 use Rattle.base.proofs.Table.{agree}
 use Rattle.text.specs.Text.{ascii}
-use Rattle.text.specs.Numerals.{apart, decimal, digit_of, extended, glyph, hex, most_digits, numeral, signed, with_sign}
+use Rattle.text.specs.Numerals.{behind, decimal, digit_of, extended, glyph, hex, most_digits, numeral, signed}
 
 module _ (b : ℕ) (more : 1 < b) where
   -- what is divided has fewer digits
@@ -32,24 +37,23 @@ module _ (b : ℕ) (more : 1 < b) where
   last-digit zero n f h = absurd (omega (arith, rw (pow-suc b 0, pow-zero b) at h))
   last-digit (suc most) n f h = rw (le-ltb n b f, enough most (n / b) (fewer (suc most) n h))
 
--- the two signs
-pub signed-plus : (x : ℕ) → x < 2 ^ 63 → decimal x ≡ signed x
-signed-plus x h = rw (lt-ltb x (2 ^ 63) h)
+-- A number in two's complement, as what is signed says its sign and its distance from 0.
+module _ (plus minus : List ℕ) (x : ℕ) (h : x < 2 ^ 64) where
+  pub behind-minus : lt_z (to_z w64 x) (pos 0) ≡ true → minus ++ decimal (unsigned_abs (to_z w64 x)) ≡ behind plus minus x
+  behind-minus = by (ltb x (2 ^ 63))
+    where
+      by : (t : Bool) → lt_z (sel t (pos x) (negsuc (2 ^ 64 - suc x))) (pos 0) ≡ true
+          → minus ++ decimal (unsigned_abs (sel t (pos x) (negsuc (2 ^ 64 - suc x)))) ≡ pick t (plus ++ decimal x) (minus ++ decimal (2 ^ 64 - x))
+      by true e = absurd (omega (arith, ltb-true x 0 e))
+      by false e = let one : suc (2 ^ 64 - suc x) ≡ 2 ^ 64 - x = omega arith in rw one
 
-pub signed-minus : (x : ℕ) → 2 ^ 63 ≤ x → ascii "-" ++ decimal (2 ^ 64 - x) ≡ signed x
-signed-minus x h = rw (le-ltb x (2 ^ 63) h)
-
-pub with-sign-plus : (x : ℕ) → x < 2 ^ 63 → ascii "+" ++ decimal x ≡ with_sign x
-with-sign-plus x h = rw (lt-ltb x (2 ^ 63) h)
-
-pub with-sign-minus : (x : ℕ) → 2 ^ 63 ≤ x → ascii "-" ++ decimal (2 ^ 64 - x) ≡ with_sign x
-with-sign-minus x h = rw (le-ltb x (2 ^ 63) h)
-
-pub apart-plus : (x : ℕ) → x < 2 ^ 63 → ascii "+ " ++ decimal x ≡ apart x
-apart-plus x h = rw (lt-ltb x (2 ^ 63) h)
-
-pub apart-minus : (x : ℕ) → 2 ^ 63 ≤ x → ascii "- " ++ decimal (2 ^ 64 - x) ≡ apart x
-apart-minus x h = rw (le-ltb x (2 ^ 63) h)
+  pub behind-plus : lt_z (to_z w64 x) (pos 0) ≡ false → plus ++ decimal (unsigned_abs (to_z w64 x)) ≡ behind plus minus x
+  behind-plus = by (ltb x (2 ^ 63))
+    where
+      by : (t : Bool) → lt_z (sel t (pos x) (negsuc (2 ^ 64 - suc x))) (pos 0) ≡ false
+          → plus ++ decimal (unsigned_abs (sel t (pos x) (negsuc (2 ^ 64 - suc x)))) ≡ pick t (plus ++ decimal x) (minus ++ decimal (2 ^ 64 - x))
+      by true e = refl
+      by false e = absurd (true≢false e)
 
 -- A numeral, read back.
 abbrev pub read_from : ℕ → ℕ → List ℕ → ℕ

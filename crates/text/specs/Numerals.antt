@@ -49,6 +49,10 @@ with_sign x = pick (ltb x (2 ^ 63)) (ascii "+" ++ decimal x) (ascii "-" ++ decim
 abbrev pub apart : ℕ → List ℕ
 apart x = pick (ltb x (2 ^ 63)) (ascii "+ " ++ decimal x) (ascii "- " ++ decimal (2 ^ 64 - x))
 
+-- the three as one: a number behind the text for its sign
+abbrev pub behind : (plus minus : List ℕ) → ℕ → List ℕ
+behind plus minus x = pick (ltb x (2 ^ 63)) (plus ++ decimal x) (minus ++ decimal (2 ^ 64 - x))
+
 -- A 32-bit two's complement number at 64 bits: no sign is lost.
 abbrev pub extended : ℕ → ℕ
 extended x = pick (ltb x (2 ^ 31)) x (x + 0xffffffff00000000)

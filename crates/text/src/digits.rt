@@ -1,8 +1,8 @@
 // The digits of a number, two at a time: how many there are, and they themselves, written where there is room for all of them.
-ghost use Rattle.std.specs.Prelude.{◌≡◌, [], ◌∷◌, ◌-◌, ◌*◌, ◌/◌, ◌%◌, ◌≤◌, ◌<◌, length};
-ghost use Rattle.text.specs.Numerals.{numeral, most_digits, decimal, hex};
+ghost use Rattle.std.specs.Prelude.{◌≡◌, [], ◌∷◌, ◌+◌, ◌-◌, ◌*◌, ◌/◌, ◌%◌, ◌^◌, ◌≤◌, ◌<◌, length};
+ghost use Rattle.text.specs.Numerals.{numeral, most_digits, decimal, hex, pairs};
 ghost use Rattle.text.specs.Numerals.{glyph as Numerals·glyph};
-ghost use Rattle.text.specs.Lent.{Says, Spelled, IsPairs, IsWidth, HasRoom, Stands};
+ghost use Rattle.text.specs.Lent.{Says, HasRoom, Stands};
 
 // As many as 64 bits can have in a base of 10 or more.
 pub const MOST_DIGITS: usize = 20;
@@ -11,7 +11,7 @@ pub const MOST_DIGITS: usize = 20;
 const LETTERS: u8 = b'a' - 10;
 
 // Two characters for each number below 256: its digits in hexadecimal, the first in the lower byte.
-pub const PAIRS: [u16; 256] = [
+const PAIRS: [u16; 256] = [
     0x3030, 0x3130, 0x3230, 0x3330, 0x3430, 0x3530, 0x3630, 0x3730, 0x3830, 0x3930, 0x6130, 0x6230,
     0x6330, 0x6430, 0x6530, 0x6630, 0x3031, 0x3131, 0x3231, 0x3331, 0x3431, 0x3531, 0x3631, 0x3731,
     0x3831, 0x3931, 0x6131, 0x6231, 0x6331, 0x6431, 0x6531, 0x6631, 0x3032, 0x3132, 0x3232, 0x3332,
@@ -36,11 +36,30 @@ pub const PAIRS: [u16; 256] = [
     0x6366, 0x6466, 0x6566, 0x6666,
 ];
 
+// That table, laid out: a constant array is laid out anew at each use, so that it is made once and lent.
+#[derive(Drop)]
+pub struct Pairs {
+    table: [u16; 256],
+    ghost whole: { table ≡ pairs },
+}
+
+// A number and the base that it is written in, where it has no more digits than may be.
+#[derive(Clone, Copy)]
+pub struct Numeral {
+    pub base: u64,
+    pub n: u64,
+    ghost more: { 1 < base },
+    ghost most: { base ≤ 16 },
+    ghost short: { n < base ^ most_digits },
+}
+
 // A number of hexadecimal digits, and the largest number that has as many.
 #[derive(Clone, Copy)]
 pub struct Width {
     pub digits: usize,
     pub largest: u64,
+    ghost some: { 0 < digits },
+    ghost power: { largest + 1 ≡ 16 ^ digits },
 }
 
 pub fn glyph(d: u64) -> u8
@@ -53,152 +72,153 @@ pub fn glyph(d: u64) -> u8
     LETTERS + d as u8
 }
 
-// A number of one digit: the second of two.
-fn put_single(out: &mut [u8], at: usize, pairs: &[u16; 256], digit: u64)
-    requires { IsPairs pairs × ((digit < 16) × HasRoom out at 1) }
-    ensures { Stands out at (Numerals·glyph digit ∷ []) }
-{
-    out[at] = (pairs[digit as usize] / 256) as u8;
-}
-
-// A number of two digits. It stands in the table where it would if it were hexadecimal.
-fn put_pair(out: &mut [u8], at: usize, pairs: &[u16; 256], base: u64, both: u64)
-    requires pairs { IsPairs pairs × ((1 < base) × ((base ≤ 16) × (both < base * base))) }
-    requires has_room { HasRoom out at 2 }
-    ensures { Stands out at (Numerals·glyph (both / base) ∷ Numerals·glyph (both % base) ∷ []) }
-{
-    let pair = pairs[(both + (16 - base) * (both / base)) as usize];
-    out[at] = (pair % 256) as u8;
-    out[at + 1] = (pair / 256) as u8;
-}
-
-// How many digits n has; four are counted at a time.
-fn count_digits(base: u64, n: u64) -> usize
-    requires { Spelled base n }
-    ensures { (result ≡ length (numeral base most_digits n)) × (result ≤ most_digits) }
-{
-    let square = base * base;
-    let cube = square * base;
-    let fourth = cube * base;
-    let mut rest = n;
-    let mut count = 0;
-    while fourth <= rest {
-        rest = rest / base / base / base / base;
-        count += 4;
-    }
-    if rest < square {
-        if rest < base {
-            return count + 1;
-        }
-        return count + 2;
-    }
-    if rest < cube {
-        return count + 3;
-    }
-    count + 4
-}
-
-// The digits of n, the last of them ahead of `end`.
-fn put_ending(out: &mut [u8], end: usize, pairs: &[u16; 256], base: u64, n: u64)
-    requires pairs { IsPairs pairs × Spelled base n }
-    requires n_len_bound { (length (numeral base most_digits n) ≤ end) × HasRoom out end 0 }
-    ensures { Stands out (end - length (numeral base most_digits n)) (numeral base most_digits n) }
-{
-    let square = base * base;
-    let mut rest = n;
-    let mut left = end;
-    while square <= rest {
-        left -= 2;
-        put_pair(out, left, pairs, base, rest % square);
-        rest = rest / base / base;
-    }
-    if rest < base {
-        put_single(out, left - 1, pairs, rest);
-        return;
-    }
-    put_pair(out, left - 2, pairs, base, rest);
-}
-
-// The digits of n from `at` on, where there is room for them.
-pub fn put_digits(out: &mut [u8], at: usize, pairs: &[u16; 256], base: u64, n: u64) -> usize
-    requires pairs { IsPairs pairs × Spelled base n }
-    requires has_room { HasRoom out at (length (numeral base most_digits n)) }
-    ensures { Says out at result (numeral base most_digits n) }
-{
-    if n < base {
-        put_single(out, at, pairs, n);
-        return at + 1;
-    }
-    let end = at + count_digits(base, n);
-    put_ending(out, end, pairs, base, n);
-    end
-}
-
-// In decimal and in hexadecimal: how many, and where there is room the digits themselves.
+// How many in decimal and in hexadecimal.
 pub fn count_decimal(n: u64) -> usize
     ensures { (result ≡ length (decimal n)) × (result ≤ most_digits) }
 {
-    count_digits(10, n)
+    Numeral { base: 10, n }.count()
 }
 
 pub fn count_hex(n: u64) -> usize
     ensures { (result ≡ length (hex n)) × (result ≤ most_digits) }
 {
-    count_digits(16, n)
+    Numeral { base: 16, n }.count()
 }
 
-pub fn put_decimal(out: &mut [u8], at: usize, pairs: &[u16; 256], n: u64) -> usize
-    requires { IsPairs pairs × HasRoom out at (length (decimal n)) }
-    ensures { Says out at result (decimal n) }
-{
-    put_digits(out, at, pairs, 10, n)
-}
-
-pub fn put_hex(out: &mut [u8], at: usize, pairs: &[u16; 256], n: u64) -> usize
-    requires { IsPairs pairs × HasRoom out at (length (hex n)) }
-    ensures { Says out at result (hex n) }
-{
-    put_digits(out, at, pairs, 16, n)
-}
-
-pub fn one_digit() -> Width
-    ensures { IsWidth result × (result.digits ≡ 1) }
-{
-    Width {
-        digits: 1,
-        largest: 15,
+impl Numeral {
+    // How many digits it has; four are counted at a time.
+    fn count(self) -> usize
+        ensures { (result ≡ length (numeral self.base most_digits self.n)) × (result ≤ most_digits) }
+    {
+        let base = self.base;
+        let square = base * base;
+        let cube = square * base;
+        let fourth = cube * base;
+        let mut rest = self.n;
+        let mut count = 0;
+        while fourth <= rest {
+            rest = rest / base / base / base / base;
+            count += 4;
+        }
+        if rest < square {
+            if rest < base {
+                return count + 1;
+            }
+            return count + 2;
+        }
+        if rest < cube {
+            return count + 3;
+        }
+        count + 4
     }
 }
 
-// The width of n, counted on from one that is no larger: of numbers that grow, most have as many digits as the one before.
-pub fn widen(width: Width, n: u64) -> Width
-    requires { IsWidth width × (width.digits ≤ length (hex n)) }
-    ensures { IsWidth result × (result.digits ≡ length (hex n)) }
-{
-    let mut digits = width.digits;
-    let mut largest = width.largest;
-    while largest < n {
-        largest = largest * 16 + 15;
-        digits += 1;
+impl Pairs {
+    pub fn new() -> Self {
+        Pairs { table: PAIRS }
     }
-    Width {
-        digits: digits,
-        largest: largest,
+
+    // A number of one digit: the second of two.
+    fn put_single(&self, out: &mut [u8], at: usize, digit: u64)
+        requires { (digit < 16) × HasRoom out at 1 }
+        ensures { Stands out at (Numerals·glyph digit ∷ []) }
+    {
+        out[at] = (self.table[digit as usize] / 256) as u8;
+    }
+
+    // A number of two digits. It stands in the table where it would if it were hexadecimal.
+    fn put_pair(&self, out: &mut [u8], at: usize, base: u64, both: u64)
+        requires both { (1 < base) × ((base ≤ 16) × (both < base * base)) }
+        requires has_room { HasRoom out at 2 }
+        ensures { Stands out at (Numerals·glyph (both / base) ∷ Numerals·glyph (both % base) ∷ []) }
+    {
+        let pair = self.table[(both + (16 - base) * (both / base)) as usize];
+        out[at] = (pair % 256) as u8;
+        out[at + 1] = (pair / 256) as u8;
+    }
+
+    // The digits of a number, the last of them ahead of `end`.
+    fn put_ending(&self, out: &mut [u8], end: usize, number: Numeral)
+        requires { (length (numeral number.base most_digits number.n) ≤ end) × HasRoom out end 0 }
+        ensures { Stands out (end - length (numeral number.base most_digits number.n)) (numeral number.base most_digits number.n) }
+    {
+        let base = number.base;
+        let square = base * base;
+        let mut rest = number.n;
+        let mut left = end;
+        while square <= rest {
+            left -= 2;
+            self.put_pair(out, left, base, rest % square);
+            rest = rest / base / base;
+        }
+        if rest < base {
+            self.put_single(out, left - 1, rest);
+            return;
+        }
+        self.put_pair(out, left - 2, base, rest);
+    }
+
+    // The digits of a number from `at` on, where there is room for them.
+    pub fn put_digits(&self, out: &mut [u8], at: usize, number: Numeral) -> usize
+        requires { HasRoom out at (length (numeral number.base most_digits number.n)) }
+        ensures { Says out at result (numeral number.base most_digits number.n) }
+    {
+        if number.n < number.base {
+            self.put_single(out, at, number.n);
+            return at + 1;
+        }
+        let end = at + number.count();
+        self.put_ending(out, end, number);
+        end
+    }
+
+    // In decimal and in hexadecimal, where there is room for the digits.
+    pub fn put_decimal(&self, out: &mut [u8], at: usize, n: u64) -> usize
+        requires { HasRoom out at (length (decimal n)) }
+        ensures { Says out at result (decimal n) }
+    {
+        self.put_digits(out, at, Numeral { base: 10, n })
+    }
+
+    pub fn put_hex(&self, out: &mut [u8], at: usize, n: u64) -> usize
+        requires { HasRoom out at (length (hex n)) }
+        ensures { Says out at result (hex n) }
+    {
+        self.put_digits(out, at, Numeral { base: 16, n })
+    }
+
+    // In hexadecimal, where it is known how many digits there are.
+    pub fn put_hex_counted(&self, out: &mut [u8], at: usize, digits: usize, n: u64) -> usize
+        requires { (digits ≡ length (hex n)) × HasRoom out at digits }
+        ensures { Says out at result (hex n) }
+    {
+        let end = at + digits;
+        self.put_ending(out, end, Numeral { base: 16, n });
+        end
     }
 }
 
-// In hexadecimal, where it is known how many digits there are.
-pub fn put_hex_counted(
-    out: &mut [u8],
-    at: usize,
-    pairs: &[u16; 256],
-    digits: usize,
-    n: u64,
-) -> usize
-    requires { IsPairs pairs × ((digits ≡ length (hex n)) × HasRoom out at digits) }
-    ensures { Says out at result (hex n) }
-{
-    let end = at + digits;
-    put_ending(out, end, pairs, 16, n);
-    end
+impl Width {
+    pub fn one_digit() -> Self
+        ensures { result.digits ≡ 1 }
+    {
+        Width {
+            digits: 1,
+            largest: 15,
+        }
+    }
+
+    // The width of n, counted on from one that is no larger: of numbers that grow, most have as many digits as the one before.
+    pub fn widen(self, n: u64) -> Self
+        requires { self.digits ≤ length (hex n) }
+        ensures { result.digits ≡ length (hex n) }
+    {
+        let mut digits = self.digits;
+        let mut largest = self.largest;
+        while largest < n {
+            largest = largest * 16 + 15;
+            digits += 1;
+        }
+        Width { digits, largest }
+    }
 }

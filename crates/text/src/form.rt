@@ -24,13 +24,7 @@ fn numbers_taken(character: u8) -> usize
     ensures { (result ≡ takes character) × (result ≤ 1) }
 {
     match character {
-        b'#' => 1,
-        b'~' => 1,
-        b'^' => 1,
-        b'_' => 1,
-        b'$' => 1,
-        b'@' => 1,
-        b'%' => 1,
+        b'#' | b'~' | b'^' | b'_' | b'$' | b'@' | b'%' => 1,
         _ => 0,
     }
 }
@@ -38,23 +32,17 @@ fn numbers_taken(character: u8) -> usize
 fn number_at(numbers: &[u64], k: usize) -> u64
     ensures { result ≡ get_or (given numbers) k 0 }
 {
-    if k < numbers.len() {
-        return numbers[k];
-    }
-    0
+    numbers.get(k).copied().unwrap_or(0)
 }
 
 pub fn put_form(out: &mut [u8], at: usize, form: &[u8], numbers: &[u64]) -> usize
     ensures { Says out at result (formed (given form) (given numbers)) }
 {
     let mut next = at;
-    let mut i = 0;
     let mut k = 0;
-    while i < form.len() {
-        let character = form[i];
+    for &character in form {
         next = put_piece(out, next, character, number_at(numbers, k));
         k += numbers_taken(character);
-        i += 1;
     }
     next
 }

@@ -16,10 +16,8 @@ pub fn put_text(out: &mut [u8], at: usize, text: &[u8]) -> usize
     ensures { Says out at result (given text) }
 {
     let mut next = at;
-    let mut i = 0;
-    while i < text.len() {
-        next = put_byte(out, next, text[i]);
-        i += 1;
+    for &x in text {
+        next = put_byte(out, next, x);
     }
     next
 }
@@ -29,10 +27,8 @@ pub fn put_padding(out: &mut [u8], at: usize, column: usize) -> usize
     ensures { Says out at result (replicate (column - at) 0x20) }
 {
     let mut next = at;
-    let mut i = at;
-    while i < column {
+    for _ in at..column {
         next = put_byte(out, next, b' ');
-        i += 1;
     }
     next
 }

@@ -1,5 +1,7 @@
 -- The laws of `Wrote`: nothing, one emitter behind another, the same bytes under another name, a stored word.
 use Rattle.std.proofs.Common.{◌≡◌, ℕ, zero, suc, ◌+◌, ◌-◌, ◌*◌, ◌/◌, ◌%◌, ◌^◌, ◌<◌, ◌≤◌, List, [], ◌∷◌, ◌++◌, length, take, drop, set, sym, refl, ap, ◌∙◌, append_assoc, append-nil, arith, length-append, length-take, drop-drop, drop-set-lt}
+use borrow.Rule.Slice.PartMut.{put_mid}
+use Rattle.std.specs.Int.{w32, w64, to_le_bytes}
 use lib.Seq.{sets, sets-eq, take-append-add, take-append-le}
 use Rattle.base.specs.Bytes.{bytes_of, le32, le64}
 use Rattle.base.proofs.BytesLaws.{length-bytes_of}
@@ -35,27 +37,30 @@ same p e = rw e at p
 pub last : {l l' : List ℕ} {at r : ℕ} {xs : List ℕ} → Wrote l l' at r xs → Wrote l l' at r (xs ++ [])
 last {xs = xs} p = same p (sym (append-nil xs))
 
--- A word is stored as two halves.
-halved : (low high : ℕ) → low < 2 ^ 32 → le32 low ++ le32 high ≡ le64 (low + 2 ^ 32 * high)
-halved low high h =
-    let a : (low + 2 ^ 32 * high) % 256 ≡ low % 256 = omega arith in
-    let b : (low + 2 ^ 32 * high) / 256 ≡ low / 256 + 2 ^ 24 * high = omega arith in
-    let c : (low / 256 + 2 ^ 24 * high) % 256 ≡ low / 256 % 256 = omega arith in
-    let d : (low / 256 + 2 ^ 24 * high) / 256 ≡ low / 256 / 256 + 2 ^ 16 * high = omega arith in
-    let e : (low / 256 / 256 + 2 ^ 16 * high) % 256 ≡ low / 256 / 256 % 256 = omega arith in
-    let f : (low / 256 / 256 + 2 ^ 16 * high) / 256 ≡ low / 256 / 256 / 256 + 2 ^ 8 * high = omega arith in
-    let g : (low / 256 / 256 / 256 + 2 ^ 8 * high) % 256 ≡ low / 256 / 256 / 256 % 256 = omega arith in
-    let i : (low / 256 / 256 / 256 + 2 ^ 8 * high) / 256 ≡ high = omega arith in
-    rw (a, b, c, d, e, f, g, i)
+-- The library's bytes of a number are those of `bytes_of`.
+pub little-32 : (x : ℕ) → to_le_bytes w32 x ≡ le32 x
+little-32 x =
+    let b : x / 256 ^ 2 % 256 ≡ x / 256 / 256 % 256 = omega arith in
+    let c : x / 256 ^ 3 % 256 ≡ x / 256 / 256 / 256 % 256 = omega arith in
+    rw (b, c) refl
 
-pub halves : {l₁ l₂ : List ℕ} (l : List ℕ) (at x : ℕ)
-    → l₁ ≡ sets l at (le32 (x % 2 ^ 32)) → l₂ ≡ sets l₁ (at + 4) (le32 (x / 2 ^ 32)) → l₂ ≡ sets l at (le64 x)
-halves l at x p q =
-    let low = x % 2 ^ 32 in
-    let high = x / 2 ^ 32 in
-    let whole : low + 2 ^ 32 * high ≡ x = omega arith in
-    q ∙ ap (λ (t : List ℕ). sets t (at + 4) (le32 high)) p ∙ sets-append l at (le32 low) (le32 high)
-    ∙ ap (sets l at) (halved low high (omega arith) ∙ ap le64 whole)
+pub little-64 : (x : ℕ) → to_le_bytes w64 x ≡ le64 x
+little-64 x =
+    let b : x / 256 ^ 2 % 256 ≡ x / 256 / 256 % 256 = omega arith in
+    let c : x / 256 ^ 3 % 256 ≡ x / 256 / 256 / 256 % 256 = omega arith in
+    let d : x / 256 ^ 4 % 256 ≡ x / 256 / 256 / 256 / 256 % 256 = omega arith in
+    let e : x / 256 ^ 5 % 256 ≡ x / 256 / 256 / 256 / 256 / 256 % 256 = omega arith in
+    let f : x / 256 ^ 6 % 256 ≡ x / 256 / 256 / 256 / 256 / 256 / 256 % 256 = omega arith in
+    let g : x / 256 ^ 7 % 256 ≡ x / 256 / 256 / 256 / 256 / 256 / 256 / 256 % 256 = omega arith in
+    rw (b, c, d, e, f, g) refl
+
+-- A part of the page that is written whole: n bytes from `at` on.
+pub copied : (l : List ℕ) {m zs : List ℕ} (at n : ℕ) (ys : List ℕ) → m ≡ zs → zs ≡ ys → length ys ≡ n → at + n ≤ length l
+    → put_mid at (at + n - at) l m ≡ sets l at ys
+copied l at n ys p q e h =
+    let all : at + n - at ≡ n = omega arith in
+    let behind : drop n (drop at l) ≡ drop (at + length ys) l = drop-drop n at l ∙ ap (λ (k : ℕ). drop (at + k) l) (sym e) in
+    rw (all, p, q, behind) (sym (sets-eq ys l at (omega (arith, e, h)) ∙ append_assoc (take at l) ys (drop (at + length ys) l)))
 
 -- A stored word is n bytes, n at most eight.
 bytes-prefix : (n m x : ℕ) → n ≤ m → take n (bytes_of m x) ≡ bytes_of n x

@@ -8,27 +8,20 @@ ghost use Rattle.x86_emit.specs.Lent.{Wrote, Stores};
 use base::Position;
 use x86::{FORCED, REX, REX_W};
 
-// Four bytes, lowest first, and no more: a jump's field, filled in, or half a word.
+// Four bytes, lowest first, and no more: a jump's field, filled in.
 pub fn store4(code: &mut [u8], at: usize, x: u32)
     requires { at + 4 ≤ length code.old }
     ensures { Stores code at (le32 x) }
 {
-    let x1 = x / 256;
-    let x2 = x1 / 256;
-    let x3 = x2 / 256;
-    code[at] = (x % 256) as u8;
-    code[at + 1] = (x1 % 256) as u8;
-    code[at + 2] = (x2 % 256) as u8;
-    code[at + 3] = (x3 % 256) as u8;
+    code[at..at + 4].copy_from_slice(&x.to_le_bytes());
 }
 
-// Eight bytes, lowest first, as two halves: compiled they are one store.
+// Eight bytes, lowest first: compiled they are one store.
 pub fn store8(code: &mut [u8], at: usize, x: u64)
     requires { at + 8 ≤ length code.old }
     ensures { Stores code at (le64 x) }
 {
-    store4(code, at, (x % 0x1_0000_0000) as u32);
-    store4(code, at + 4, (x / 0x1_0000_0000) as u32);
+    code[at..at + 8].copy_from_slice(&x.to_le_bytes());
 }
 
 // The lowest `size` bytes of `data`.
@@ -36,10 +29,9 @@ pub fn emit_bytes(code: &mut [u8], at: Position, data: u64, size: usize) -> Posi
     requires { (at.offset + 8 ≤ length code.old) × (size ≤ 8) }
     ensures { Wrote code at result (bytes_of size «data») }
 {
-    let offset = at.offset;
-    store8(code, offset, data);
+    store8(code, at.offset, data);
     Position {
-        offset: offset + size,
+        offset: at.offset + size,
     }
 }
 

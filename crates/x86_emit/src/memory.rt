@@ -60,7 +60,7 @@ fn modrm_and_displacement(reg: u8, base: u8, disp: u32) -> Operand
     }
 }
 
-// Load [base + disp] into dst.
+// Load [base + disp] into dst. Here and in the stores each size has an arm of its own, so that opcode and REX.W are constants in it.
 pub fn emit_load(
     code: &mut [u8],
     at: Position,

@@ -2,15 +2,15 @@
 use mathlib.Core.Path.{◌≡◌, refl}
 use mathlib.Core.Bool.{Bool, true, false}
 use mathlib.Core.List.{List}
+use Rattle.std.specs.Prelude.{None, Some}
 use Prim.Native.Nat.{ℕ, zero, suc, ◌%◌, ◌<◌}
 use native.Mathlib.Omega.{arith}
 use lib.Dec.{eqb}
 use lib.ListN.{drop}
 use Rattle.base.specs.Pick.{pick}
 use Rattle.x86.specs.Decode.{bad, Next}
-use Rattle.x86_encoding.specs.Bytes.{four_is}
+use Rattle.x86_encoding.specs.Bytes.{number_is}
 use Rattle.x86_encoding.specs.Operand.{bit, none_at}
-use Rattle.x86_encoding.specs.declared.bytes.Four.{Four}
 
 -- a bit that a test reads is the bit
 pub bit-of : (n : ℕ) → n < 2 → bit (eqb n 1) ≡ n
@@ -19,9 +19,9 @@ bit-of (suc zero) h = refl
 bit-of (suc (suc n)) h = absurd (omega arith)
 
 -- without a displacement the definition goes on with 0
-pub none_reads : (s : List ℕ) (m at : ℕ) (k : ℕ → Next) → pick (eqb (m % 8) 5) (λ r. bad) (k 0) (drop at s) ≡ four_is s (none_at m at) k
+pub none_reads : (s : List ℕ) (m at : ℕ) (k : ℕ → Next) → pick (eqb (m % 8) 5) (λ r. bad) (k 0) (drop at s) ≡ number_is s (none_at m at) k
 none_reads s m at k = go (eqb (m % 8) 5)
   where
-    go : (b : Bool) → pick b (λ r. bad) (k 0) (drop at s) ≡ four_is s (pick b Four.End (Four.Is 0 at)) k
+    go : (b : Bool) → pick b (λ r. bad) (k 0) (drop at s) ≡ number_is s (pick b None (Some (0, at))) k
     go true = refl
     go false = refl

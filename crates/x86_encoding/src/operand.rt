@@ -5,10 +5,10 @@ ghost use Rattle.x86_encoding.specs.Operand.{rex_is, none_at};
 ghost use Rattle.x86_encoding.specs.Lent.{Heads, ReadsShort, Displaces, Operands};
 
 use crate::bytes;
-use crate::bytes::{Byte, Four};
 use base::Width;
 
-// REX: whether there is one, the width that W says, and whether R and B are set.
+// REX: whether there is one, the width that W says, and whether R and B are set. `there` stands beside them, and no `Option` round them,
+// since the definition's own record has it, and without a REX the others are read too: 32 bits, and neither bit.
 #[derive(Clone, Copy)]
 pub struct Rex {
     pub there: bool,
@@ -17,19 +17,18 @@ pub struct Rex {
     pub b: bool,
 }
 
-// The REX, the opcode, and the place behind it.
-#[derive(Clone, Copy)]
-pub enum Head {
-    End,
-    Is(Rex, u8, usize),
+// What mod and r/m name: a register, or the memory at a base register and a displacement.
+#[derive(Clone, Copy, PartialEq, Eq, Debug)]
+pub enum Operand {
+    Register(u8),
+    Memory(u8, u32),
 }
 
-// What ModRM says: reg, then a register, or a base register and a displacement; and the place behind it.
-#[derive(Clone, Copy)]
-pub enum Modrm {
-    Bad,
-    Register(u8, u8, usize),
-    Memory(u8, u8, u32, usize),
+// ModRM: its reg, and the operand.
+#[derive(Clone, Copy, PartialEq, Eq, Debug)]
+pub struct Modrm {
+    pub reg: u8,
+    pub operand: Operand,
 }
 
 fn width_of(bits: u8) -> Width
@@ -64,20 +63,16 @@ fn no_rex() -> Rex
     }
 }
 
-// The opcode, with a REX, 40 to 4F, right ahead of it or none.
-pub fn head_at(code: &[u8], at: usize) -> Head
+// The REX, 40 to 4F, or none, the opcode right behind it, and the place behind that.
+pub fn head_at(code: &[u8], at: usize) -> Option<(Rex, u8, usize)>
     ensures { Heads code at result }
 {
-    let Byte::Is(b, next) = bytes::byte_at(code, at) else {
-        return Head::End;
-    };
+    let (b, next) = bytes::byte_at(code, at)?;
     if b / 16 == 0x4 {
-        let Byte::Is(opcode, end) = bytes::byte_at(code, next) else {
-            return Head::End;
-        };
-        return Head::Is(rex_of(b % 16), opcode, end);
+        let (opcode, end) = bytes::byte_at(code, next)?;
+        return Some((rex_of(b % 16), opcode, end));
     }
-    Head::Is(no_rex(), b, next)
+    Some((no_rex(), b, next))
 }
 
 // The register in ModRM's reg, and the one in the low three bits of ModRM or of the opcode.
@@ -104,32 +99,30 @@ fn extended(b: u8) -> u32
     ensures { result ≡ signed8 b }
 {
     if b < 0x80 {
-        return b as u32;
+        return u32::from(b);
     }
-    0xffff_ff00 + b as u32
+    0xffff_ff00 + u32::from(b)
 }
 
-fn short_at(code: &[u8], at: usize) -> Four
+fn short_at(code: &[u8], at: usize) -> Option<(u32, usize)>
     ensures { ReadsShort code at result }
 {
-    let Byte::Is(b, next) = bytes::byte_at(code, at) else {
-        return Four::End;
-    };
-    Four::Is(extended(b), next)
+    let (b, next) = bytes::byte_at(code, at)?;
+    Some((extended(b), next))
 }
 
 // No displacement: mod 0, whose r/m 5 would be RIP-relative.
-fn none_at(at: usize, m: u8) -> Four
+fn none_at(at: usize, m: u8) -> Option<(u32, usize)>
     ensures { result ≡ none_at m at }
 {
     if m % 8 == 5 {
-        return Four::End;
+        return None;
     }
-    Four::Is(0, at)
+    Some((0, at))
 }
 
 // The displacement that the ModRM m asks for.
-fn displacement_at(code: &[u8], at: usize, m: u8) -> Four
+fn displacement_at(code: &[u8], at: usize, m: u8) -> Option<(u32, usize)>
     requires { (¬ (m / 64 ≡ 3)) × (¬ (m % 8 ≡ 4)) }
     ensures { Displaces code at m result }
 {
@@ -137,25 +130,35 @@ fn displacement_at(code: &[u8], at: usize, m: u8) -> Four
         2 => bytes::four_at(code, at),
         1 => short_at(code, at),
         0 => none_at(at, m),
-        _ => Four::End,
+        _ => None,
     }
 }
 
 // ModRM, and the displacement behind it. A SIB byte, r/m 4, is not read.
-pub fn modrm_at(code: &[u8], at: usize, x: Rex) -> Modrm
+pub fn modrm_at(code: &[u8], at: usize, x: Rex) -> Option<(Modrm, usize)>
     ensures { Operands code at x result }
 {
-    let Byte::Is(m, next) = bytes::byte_at(code, at) else {
-        return Modrm::Bad;
-    };
+    let (m, next) = bytes::byte_at(code, at)?;
+    let reg = reg_number(x, m);
+    let low = low_number(x, m);
     if m / 64 == 3 {
-        return Modrm::Register(reg_number(x, m), low_number(x, m), next);
+        return Some((
+            Modrm {
+                reg,
+                operand: Operand::Register(low),
+            },
+            next,
+        ));
     }
     if m % 8 == 4 {
-        return Modrm::Bad;
+        return None;
     }
-    let Four::Is(displacement, end) = displacement_at(code, next, m) else {
-        return Modrm::Bad;
-    };
-    Modrm::Memory(reg_number(x, m), low_number(x, m), displacement, end)
+    let (displacement, end) = displacement_at(code, next, m)?;
+    Some((
+        Modrm {
+            reg,
+            operand: Operand::Memory(low, displacement),
+        },
+        end,
+    ))
 }

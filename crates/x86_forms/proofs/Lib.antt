@@ -1,1 +1,2 @@
 pub mod ByRex
+pub mod Chosen

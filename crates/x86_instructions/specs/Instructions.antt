@@ -1,5 +1,5 @@
 -- The instructions as those of the definition, and what reading answers.
-use Rattle.std.specs.Prelude.{List, ℕ, drop}
+use Rattle.std.specs.Prelude.{List, ℕ, drop, Option, Some, None}
 use Rattle.base.specs.declared.Width.{Width}
 use Rattle.base.specs.declared.Width.TheVariants.{W32, W64}
 use Rattle.base.specs.declared.Size.{Size}
@@ -14,7 +14,6 @@ use Rattle.x86_instructions.specs.declared.Unary.{Unary}
 use Rattle.x86_instructions.specs.declared.Cond.{Cond}
 use Rattle.x86_instructions.specs.declared.Jump.{Jump}
 use Rattle.x86_instructions.specs.declared.Instruction.{Instruction}
-use Rattle.x86_instructions.specs.declared.Read.{Read}
 
 abbrev pub alu_of : Alu → I.Alu
 alu_of Alu.Add = I.ADD
@@ -71,10 +70,11 @@ instr_of (Instruction.Jump j x) = I.jump (jump_of j) x
 instr_of (Instruction.CallReg r) = call_reg r
 instr_of Instruction.Ret = ret
 
--- the answer, where the bytes s are read
-abbrev pub read_is : List ℕ → Read → X.Read
-read_is s Read.Bad = bad
-read_is s (Read.Got i next) = got (instr_of i) (drop next s)
+-- What reading the bytes s answers: no instruction that the reader knows, or one that is not all there; or the instruction, and where
+-- the bytes behind it begin.
+abbrev pub read_is : List ℕ → Option (Instruction × ℕ) → X.Read
+read_is s None = bad
+read_is s (Some (i, next)) = got (instr_of i) (drop next s)
 
 -- a word of an operation's width
 abbrev pub word_of : Width → Size

@@ -8,7 +8,7 @@ ghost use Rattle.x86_instructions.specs.Instructions.{word_of};
 
 use base::{Size, Width};
 
-#[derive(Clone, Copy)]
+#[derive(Clone, Copy, PartialEq, Eq, Debug)]
 pub enum Alu {
     Add,
     Or,
@@ -20,14 +20,14 @@ pub enum Alu {
     Test,
 }
 
-#[derive(Clone, Copy)]
+#[derive(Clone, Copy, PartialEq, Eq, Debug)]
 pub enum Shift {
     Shl,
     Shr,
     Sar,
 }
 
-#[derive(Clone, Copy)]
+#[derive(Clone, Copy, PartialEq, Eq, Debug)]
 pub enum Unary {
     Neg,
     Mul,
@@ -35,7 +35,7 @@ pub enum Unary {
 }
 
 // The conditions of Jcc, as Intel's manual abbreviates them.
-#[derive(Clone, Copy)]
+#[derive(Clone, Copy, PartialEq, Eq, Debug)]
 pub enum Cond {
     Jb,
     Jae,
@@ -49,7 +49,7 @@ pub enum Cond {
     Jg,
 }
 
-#[derive(Clone, Copy)]
+#[derive(Clone, Copy, PartialEq, Eq, Debug)]
 pub enum Jump {
     Jmp,
     Call,
@@ -84,16 +84,8 @@ pub enum Instruction {
     Ret,
 }
 
-// What reading finds.
-#[derive(Clone, Copy)]
-pub enum Read {
-    // No instruction that the reader knows, or one that is not all there.
-    Bad,
-    // The instruction, and where the bytes behind it begin.
-    Got(Instruction, usize),
-}
-
-// A word of an operation's width.
+// A word of an operation's width, as the definition says it. No `From<Width>` for `Size`: that would have to stand in crate base, which
+// knows no word, and `Size::from(w)` would not say that a word is what is meant.
 pub fn size_of(w: Width) -> Size
     ensures { result ≡ word_of w }
 {

@@ -19,32 +19,32 @@ pub fn constant_of(z: Size, imm: u32) -> u64
     ensures { result ≡ constant_of z imm }
 {
     match z {
-        Size::S8 => imm as u64,
-        Size::S16 => imm as u64,
-        Size::S32 => imm as u64,
+        Size::S8 | Size::S16 | Size::S32 => u64::from(imm),
         Size::S64 => extended(imm),
     }
 }
 
 // Where a jump goes whose last byte stands before `end`.
+#[tactic(auto, unfolding(crate::specs::Operands::destination_of))]
 pub fn destination_of(end: usize, field: u32) -> u64
     ensures { result ≡ destination_of end field }
 {
-    ((end % 0x1_0000_0000) as u64 + field as u64) % 0x1_0000_0000
+    ((end % 0x1_0000_0000) as u64 + u64::from(field)) % 0x1_0000_0000
 }
 
-fn put_size(out: &mut [u8], at: usize, z: Size) -> usize
-    ensures { Says out at result (size_text z) }
+fn size_name(z: Size) -> &'static [u8]
+    ensures { result.now ≡ size_text z }
 {
     match z {
-        Size::S8 => put_text(out, at, b"BYTE PTR ["),
-        Size::S16 => put_text(out, at, b"WORD PTR ["),
-        Size::S32 => put_text(out, at, b"DWORD PTR ["),
-        Size::S64 => put_text(out, at, b"QWORD PTR ["),
+        Size::S8 => b"BYTE PTR [",
+        Size::S16 => b"WORD PTR [",
+        Size::S32 => b"DWORD PTR [",
+        Size::S64 => b"QWORD PTR [",
     }
 }
 
 // RBP and R13 have no form without a displacement.
+#[tactic(auto, unfolding(crate::specs::Operands::no_displacement_text))]
 fn put_no_displacement(out: &mut [u8], at: usize, base: u8) -> usize
     ensures { Says out at result (no_displacement_text base) }
 {
@@ -54,6 +54,7 @@ fn put_no_displacement(out: &mut [u8], at: usize, base: u8) -> usize
     at
 }
 
+#[tactic(auto, unfolding(crate::specs::Operands::displacement_text))]
 fn put_displacement(out: &mut [u8], at: usize, base: u8, disp: u32) -> usize
     ensures { Says out at result (displacement_text base disp) }
 {
@@ -61,15 +62,15 @@ fn put_displacement(out: &mut [u8], at: usize, base: u8, disp: u32) -> usize
         return put_no_displacement(out, at, base);
     }
     if disp < 0x8000_0000 {
-        return put_form(out, at, b"+0x$", &[disp as u64]);
+        return put_form(out, at, b"+0x$", &[u64::from(disp)]);
     }
-    put_form(out, at, b"-0x$", &[0x1_0000_0000 - disp as u64])
+    put_form(out, at, b"-0x$", &[0x1_0000_0000 - u64::from(disp)])
 }
 
 fn put_memory(out: &mut [u8], at: usize, z: Size, base: u8, disp: u32) -> usize
     ensures { Says out at result (memory_text z base disp) }
 {
-    let next = put_size(out, at, z);
+    let next = put_text(out, at, size_name(z));
     let next = put_register(out, next, Size::S64, base);
     let next = put_displacement(out, next, base, disp);
     put_byte(out, next, b']')
@@ -95,9 +96,7 @@ fn loaded_of(z: Size) -> Size
     ensures { result ≡ loaded_of z }
 {
     match z {
-        Size::S8 => Size::S32,
-        Size::S16 => Size::S32,
-        Size::S32 => Size::S32,
+        Size::S8 | Size::S16 | Size::S32 => Size::S32,
         Size::S64 => Size::S64,
     }
 }

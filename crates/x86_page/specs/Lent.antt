@@ -4,11 +4,6 @@ use Rattle.std.proofs.lemmas.List.Edits.{sets}
 use Rattle.base.specs.Bytes.{le64}
 use Rattle.base.specs.Lent.{MutLent}
 use Rattle.base.specs.declared.Position.{Position}
-use Rattle.x86_emit.specs.Lent.{Stores}
-
--- a word is stored at `at`, and r is the place behind its lowest `size` bytes
-abbrev pub StoresWord : MutLent → (at r : Position) → (word size : ℕ) → Type 0
-StoresWord code at r word size = (r.offset ≡ at.offset + size) × Stores code at.offset (le64 word)
 
 -- a word is stored at `at`, a second one behind it, and r is the place behind the lowest `size` bytes of that
 abbrev pub StoresWords : MutLent → (at r : Position) → (first second size : ℕ) → Type 0

@@ -1,3 +1,4 @@
 pub mod Unknown
+pub mod ByExtension
 pub mod Takes
 pub mod Useless

@@ -4,19 +4,19 @@ use mathlib.Core.Bool.{Bool, true, false}
 use mathlib.Core.List.{List, [], ◌∷◌}
 use Prim.Native.Nat.{ℕ, zero, suc, ◌+◌, ◌*◌, ◌/◌, ◌%◌, ◌≤◌, ◌<◌}
 use native.Mathlib.Omega.{arith}
-use lib.Dec.{eqb, ltb, eqb→eq, ltb→lt, nltb→le}
+use lib.Dec.{eqb, leb, eqb→eq, leb→le}
+use Rattle.std.proofs.Math.Nat.{min-eq_left, min-eq_right, min-le_right}
 use lib.ListN.{length, drop, length-drop, drop_of_length-le}
 use Rattle.base.specs.Pick.{pick}
-use Rattle.base.proofs.Tests.{true-T}
+use Rattle.base.proofs.Tests.{true-T, leb_no}
 use Rattle.base.specs.declared.Width.{Width}
 use Rattle.base.specs.declared.Width.TheVariants.{W32, W64}
 use Rattle.x86.specs.Instr.{Instr}
-use Rattle.x86.specs.Decode.{Read, bad, got, Next, number, Rex, no_rex, rex_of, with_rex, Operand, in_register, in_memory, with_modrm, opcode, opcode16, decode}
-use Rattle.x86_instructions.specs.declared.Read as D
+use Rattle.x86.specs.Decode.{bad, got, Next, number, Rex, no_rex, rex_of, with_rex, Operand, in_register, in_memory, with_modrm, opcode, opcode16, decode}
 use Rattle.x86_instructions.specs.declared.Instruction.{Instruction}
 use Rattle.x86_instructions.specs.Instructions.{instr_of, read_is}
 use Rattle.x86_forms.proofs.ByRex.{rex}
-use Rattle.x86_reader.specs.Onward.{inside}
+use Rattle.std.specs.Prelude.{Option, Some, min}
 
 -- leaves no more than it is given
 abbrev Leaves : Next → Type 0
@@ -199,23 +199,19 @@ takes (b ∷ l) i r e = go (eqb b 0x66) e
     go false e = headed opcode (λ x o. usual x.there x.R x.B x.width o) (b ∷ l) i r e
 
 -- So an answer goes on.
-pub drop-inside : (s : List ℕ) (p : ℕ) → drop (inside (length s) p) s ≡ drop p s
-drop-inside s p = go (ltb (length s) p) refl
+pub drop-min : (s : List ℕ) (p : ℕ) → drop (min p (length s)) s ≡ drop p s
+drop-min s p = go (leb p (length s)) refl
   where
-    go : (b : Bool) → ltb (length s) p ≡ b → drop (pick b (length s) p) s ≡ drop p s
-    go true e = let h = ltb→lt _ p (true-T _ e) in drop_of_length-le s {i = length s} (omega arith) ∙ sym (drop_of_length-le s {i = p} (omega arith))
-    go false e = refl
+    go : (b : Bool) → leb p (length s) ≡ b → drop (min p (length s)) s ≡ drop p s
+    go true e = rw (min-eq_left (leb→le p (length s) (true-T _ e)))
+    go false e =
+        let h = leb_no p (length s) e in
+        let m : min p (length s) ≡ length s = min-eq_right (omega arith) in
+        drop_of_length-le s {i = min p (length s)} (omega arith) ∙ sym (drop_of_length-le s {i = p} (omega arith))
 
-inside-within : (n p : ℕ) → inside n p ≤ n
-inside-within n p = go (ltb n p) refl
-  where
-    go : (b : Bool) → ltb n p ≡ b → pick b n p ≤ n
-    go true e = omega arith
-    go false e = let h = nltb→le n p (rw e tt) in omega arith
-
-pub onward : (s : List ℕ) (at : ℕ) {r : D.Read} {i : Instruction} {p : ℕ} → decode (drop at s) ≡ read_is s r → r ≡ D.Read.Got i p
-    → (at < inside (length s) p) × (inside (length s) p ≤ length s)
+pub onward : (s : List ℕ) (at : ℕ) {r : Option (Instruction × ℕ)} {i : Instruction} {p : ℕ} → decode (drop at s) ≡ read_is s r → r ≡ Some (i, p)
+    → (at < min p (length s)) × (min p (length s) ≤ length s)
 onward s at {r} {i} {p} e g =
     let h = takes (drop at s) (instr_of i) (drop p s) (rw g at e) in
-    let m = inside-within (length s) p in
-    (omega (arith, length-drop at s, length-drop (inside (length s) p) s, ap length (drop-inside s p)), m)
+    let m = min-le_right p (length s) in
+    (omega (arith, length-drop at s, length-drop (min p (length s)) s, ap length (drop-min s p)), m)

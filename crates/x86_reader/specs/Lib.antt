@@ -1,3 +1,4 @@
 pub mod Opcodes
+pub mod Extensions
 pub mod Onward
 pub mod Lent

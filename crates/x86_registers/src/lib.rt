@@ -2,6 +2,7 @@
 
 #![tactic(auto)]
 
+ghost use Rattle.std.specs.Prelude.{◌≡◌};
 ghost use Rattle.text.specs.Lent.{Says};
 ghost use Rattle.x86_registers.specs.Registers.{stem_text, byte_text, suffix_text, low_text, register_text};
 
@@ -9,45 +10,47 @@ use base::Size;
 use text::form::put_form;
 use text::text::{put_byte, put_text};
 
-fn put_stem(out: &mut [u8], at: usize, r: u8) -> usize
-    ensures { Says out at result (stem_text r) }
+#[tactic(auto, unfolding(crate::specs::Registers::stem_text))]
+fn stem(r: u8) -> &'static [u8]
+    ensures { result.now ≡ stem_text r }
 {
     match r {
-        0 => put_text(out, at, b"ax"),
-        1 => put_text(out, at, b"cx"),
-        2 => put_text(out, at, b"dx"),
-        3 => put_text(out, at, b"bx"),
-        4 => put_text(out, at, b"sp"),
-        5 => put_text(out, at, b"bp"),
-        6 => put_text(out, at, b"si"),
-        _ => put_text(out, at, b"di"),
+        0 => b"ax",
+        1 => b"cx",
+        2 => b"dx",
+        3 => b"bx",
+        4 => b"sp",
+        5 => b"bp",
+        6 => b"si",
+        _ => b"di",
     }
 }
 
 // A register's lowest byte, as it is named behind a REX.
-fn put_low_byte(out: &mut [u8], at: usize, r: u8) -> usize
-    ensures { Says out at result (byte_text r) }
+#[tactic(auto, unfolding(crate::specs::Registers::byte_text))]
+fn low_byte(r: u8) -> &'static [u8]
+    ensures { result.now ≡ byte_text r }
 {
     match r {
-        0 => put_text(out, at, b"al"),
-        1 => put_text(out, at, b"cl"),
-        2 => put_text(out, at, b"dl"),
-        3 => put_text(out, at, b"bl"),
-        4 => put_text(out, at, b"spl"),
-        5 => put_text(out, at, b"bpl"),
-        6 => put_text(out, at, b"sil"),
-        _ => put_text(out, at, b"dil"),
+        0 => b"al",
+        1 => b"cl",
+        2 => b"dl",
+        3 => b"bl",
+        4 => b"spl",
+        5 => b"bpl",
+        6 => b"sil",
+        _ => b"dil",
     }
 }
 
-fn put_suffix(out: &mut [u8], at: usize, z: Size) -> usize
-    ensures { Says out at result (suffix_text z) }
+fn suffix(z: Size) -> &'static [u8]
+    ensures { result.now ≡ suffix_text z }
 {
     match z {
-        Size::S8 => put_text(out, at, b"b"),
-        Size::S16 => put_text(out, at, b"w"),
-        Size::S32 => put_text(out, at, b"d"),
-        Size::S64 => at,
+        Size::S8 => b"b",
+        Size::S16 => b"w",
+        Size::S32 => b"d",
+        Size::S64 => b"",
     }
 }
 
@@ -55,25 +58,26 @@ fn put_low(out: &mut [u8], at: usize, z: Size, r: u8) -> usize
     ensures { Says out at result (low_text z r) }
 {
     match z {
-        Size::S8 => put_low_byte(out, at, r),
-        Size::S16 => put_stem(out, at, r),
+        Size::S8 => put_text(out, at, low_byte(r)),
+        Size::S16 => put_text(out, at, stem(r)),
         Size::S32 => {
             let next = put_byte(out, at, b'e');
-            put_stem(out, next, r)
+            put_text(out, next, stem(r))
         }
         Size::S64 => {
             let next = put_byte(out, at, b'r');
-            put_stem(out, next, r)
+            put_text(out, next, stem(r))
         }
     }
 }
 
+#[tactic(auto, unfolding(crate::specs::Registers::register_text))]
 pub fn put_register(out: &mut [u8], at: usize, z: Size, r: u8) -> usize
     ensures { Says out at result (register_text z r) }
 {
     if r < 8 {
         return put_low(out, at, z, r);
     }
-    let next = put_form(out, at, b"r#", &[r as u64]);
-    put_suffix(out, next, z)
+    let next = put_form(out, at, b"r#", &[u64::from(r)]);
+    put_text(out, next, suffix(z))
 }

@@ -28,16 +28,24 @@ fn put_operands(out: &mut [u8], at: usize, i: Instruction, end: usize) -> usize
     ensures { Says out at result (operands_text i end) }
 {
     match i {
-        Instruction::Push(r) => put_register(out, at, Size::S64, r),
-        Instruction::Pop(r) => put_register(out, at, Size::S64, r),
+        Instruction::Push(r) | Instruction::Pop(r) | Instruction::CallReg(r) => {
+            put_register(out, at, Size::S64, r)
+        }
         Instruction::Alu(_, w, s, d) => x86_operands::put_pair(out, at, size_of(w), d, s),
         Instruction::AluImm(_, w, d, imm) => put_arithmetic(out, at, w, d, imm),
-        Instruction::ShiftImm(_, w, d, n) => put_with_constant(out, at, size_of(w), d, n as u64),
+        Instruction::ShiftImm(_, w, d, n) => put_with_constant(
+            out,
+            at,
+            size_of(w),
+            d,
+            u64::from(n),
+        ),
         Instruction::ShiftCl(_, w, d) => put_by_count(out, at, size_of(w), d),
-        Instruction::Unary(_, w, r) => put_register(out, at, size_of(w), r),
+        Instruction::Unary(_, w, r) | Instruction::Bswap(w, r) => {
+            put_register(out, at, size_of(w), r)
+        }
         Instruction::MovImm(w, d, v) => put_with_constant(out, at, size_of(w), d, v),
-        Instruction::Rol16(d, n) => put_with_constant(out, at, Size::S16, d, n as u64),
-        Instruction::Bswap(w, d) => put_register(out, at, size_of(w), d),
+        Instruction::Rol16(d, n) => put_with_constant(out, at, Size::S16, d, u64::from(n)),
         Instruction::Load(z, b, d, v) => x86_operands::put_load(out, at, z, b, d, v),
         Instruction::Store(z, s, b, v) => x86_operands::put_store(out, at, z, s, b, v),
         Instruction::StoreImm(z, b, v, imm) => x86_operands::put_store_constant(
@@ -49,7 +57,6 @@ fn put_operands(out: &mut [u8], at: usize, i: Instruction, end: usize) -> usize
             b"0x$",
             &[x86_operands::destination_of(end, field)],
         ),
-        Instruction::CallReg(r) => put_register(out, at, Size::S64, r),
         Instruction::Ret => at,
     }
 }

@@ -1,10 +1,10 @@
 use Rattle.ebpf_fields.specs.Fields.{fields_at}
 use Rattle.ebpf_fields.proofs.fields_at.Goals as goal
 
-pub returns-in-Whole : goal.returns-in-Whole
+pub returns-in-Some : goal.returns-in-Some
 unfolding fields_at
-returns-in-Whole c = rw (← c.get_insn.ensures, c.in-Whole.is)
+returns-in-Some c = rw (← c.get_insn.ensures, c.in-Some.is)
 
-pub returns-in-Torn : goal.returns-in-Torn
+pub returns-in-None : goal.returns-in-None
 unfolding fields_at
-returns-in-Torn c = rw (← c.get_insn.ensures, c.in-Torn.is)
+returns-in-None c = rw (← c.get_insn.ensures, c.in-None.is)

@@ -7,4 +7,4 @@ unfolding binary
 returns c =
     same (then c.put_form-next.ensures
     (then c.put_text-next.ensures c.put_operand.ensures))
-    (rw c.letter_of.ensures)
+    (rw (c.letter_of.ensures, c.from.ensures))

@@ -1,69 +1,24 @@
-use Rattle.listing_arguments.specs.Arguments.{digit_of}
-use borrow.Author.Tests.{lt-ltb, le-ltb, le-leb, lt-leb}
-use borrow.Author.Rules.{rules}
+use Rattle.listing_arguments.proofs.ArgumentsLaws.{digit-decimal, digit-capital, digit-small, digit-below, digit-before_capital, digit-before_small, digit-above}
+use native.Mathlib.Omega.{arith}
 use Rattle.listing_arguments.proofs.digit_of.Goals as goal
 
-pub returns-then-c-lt48 : goal.returns-then-c-lt48
-unfolding digit_of
-returns-then-c-lt48 c = (rw (lt-ltb _ _ c.if-c-lt48.true), search rules)
+pub returns-in-48-to-57 : goal.returns-in-48-to-57
+returns-in-48-to-57 c = (rw c.from.ensures (digit-decimal _ (omega arith) (omega arith)), omega arith)
 
-pub returns-then-c-le57 : goal.returns-then-c-le57
-unfolding digit_of
-returns-then-c-le57 c = (rw (le-ltb _ _ c.if-c-lt48.false, le-leb _ _ c.if-c-le57.true), search rules)
+pub returns-in-65-to-70 : goal.returns-in-65-to-70
+returns-in-65-to-70 c = (rw c.from-in-65-to-70.ensures (digit-capital _ (omega arith) (omega arith)), omega arith)
 
-pub returns-then-c-lt65 : goal.returns-then-c-lt65
-unfolding digit_of
-returns-then-c-lt65 c = (rw (le-ltb _ _ c.if-c-lt48.false, lt-leb _ _ c.if-c-le57.false, lt-ltb _ _ c.if-c-lt65.true), search rules)
+pub returns-in-97-to-102 : goal.returns-in-97-to-102
+returns-in-97-to-102 c = (rw c.from-in-97-to-102.ensures (digit-small _ (omega arith) (omega arith)), omega arith)
 
-pub returns-then-c-le70 : goal.returns-then-c-le70
-unfolding digit_of
-returns-then-c-le70 c = (
-  rw (
-    le-ltb _ _ c.if-c-lt48.false,
-    lt-leb _ _ c.if-c-le57.false,
-    le-ltb _ _ c.if-c-lt65.false,
-    le-leb _ _ c.if-c-le70.true,
-  ),
-  search rules,
-)
+pub returns-in_default : goal.returns-in_default
+returns-in_default c = (digit-below _ (omega arith), omega arith)
 
-pub returns-then-c-lt97 : goal.returns-then-c-lt97
-unfolding digit_of
-returns-then-c-lt97 c = (
-  rw (
-    le-ltb _ _ c.if-c-lt48.false,
-    lt-leb _ _ c.if-c-le57.false,
-    le-ltb _ _ c.if-c-lt65.false,
-    lt-leb _ _ c.if-c-le70.false,
-    lt-ltb _ _ c.if-c-lt97.true,
-  ),
-  search rules,
-)
+pub returns-in_default-2 : goal.returns-in_default-2
+returns-in_default-2 c = (digit-before_capital _ (omega arith) (omega arith), omega arith)
 
-pub returns-then-c-le102 : goal.returns-then-c-le102
-unfolding digit_of
-returns-then-c-le102 c = (
-  rw (
-    le-ltb _ _ c.if-c-lt48.false,
-    lt-leb _ _ c.if-c-le57.false,
-    le-ltb _ _ c.if-c-lt65.false,
-    lt-leb _ _ c.if-c-le70.false,
-    le-ltb _ _ c.if-c-lt97.false,
-    le-leb _ _ c.if-c-le102.true,
-  ),
-  search rules,
-)
+pub returns-in_default-3 : goal.returns-in_default-3
+returns-in_default-3 c = (digit-before_small _ (omega arith) (omega arith), omega arith)
 
-pub returns : goal.returns
-unfolding digit_of
-returns c = (
-  rw (
-    le-ltb _ _ c.if-c-lt48.false,
-    lt-leb _ _ c.if-c-le57.false,
-    le-ltb _ _ c.if-c-lt65.false,
-    lt-leb _ _ c.if-c-le70.false,
-    le-ltb _ _ c.if-c-lt97.false,
-    lt-leb _ _ c.if-c-le102.false,
-  ),
-  search rules,
-)
+pub returns-in_default-4 : goal.returns-in_default-4
+returns-in_default-4 c = (digit-above _ (omega arith), omega arith)

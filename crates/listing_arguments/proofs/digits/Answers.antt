@@ -1,15 +1,15 @@
 use Rattle.listing_arguments.proofs.ArgumentsLaws.{digits-none, digits-some, digit-bad}
 use mathlib.Core.Path.{◌∙◌, sym}
-use native.Mathlib.Omega.{arith}
+use borrow.Author.Rules.{rules}
 use Rattle.listing_arguments.proofs.digits.Goals as goal
 
-pub returns-then-word-eq0 : goal.returns-then-word-eq0
-returns-then-word-eq0 c = digits-none _ _ c.if-word-eq0.true
+pub returns-then-is_empty : goal.returns-then-is_empty
+returns-then-is_empty c = digits-none _ _ (search rules)
 
-pub loop-i-init : goal.loop-i-init
-loop-i-init c = (omega arith, digits-some _ _ c.if-word-eq0.false)
+pub loop-c-init : goal.loop-c-init
+loop-c-init c = digits-some _ _ (search rules)
 
-pub returns-in_default : goal.returns-in_default
-returns-in_default c =
-    let none = sym c.in_default.is ∙ c.grown.ensures in
-    sym (digit-bad _ _ _ _ _ c.loop-i-test.true c.digit_of.ensures.0 none) ∙ c.loop-i.invariant.1
+pub returns-in_err-n : goal.returns-in_err-n
+returns-in_err-n c =
+    let none = sym c.in_err-n.was ∙ c.grown.ensures in
+    c.from_residual.ensures ∙ sym (digit-bad _ _ _ _ _ c.loop-c-test.true c.digit_of.ensures.0 none) ∙ c.loop-c.invariant

@@ -1,12 +1,7 @@
+use Rattle.std.proofs.Common.{◌≡◌, drop}
+use Rattle.std.specs.Prelude.{Some}
 use Rattle.listing_arguments.specs.Arguments.{digits, read_on}
-use mathlib.Core.Path.{◌≡◌}
-use Rattle.listing_arguments.specs.declared.Number.TheVariants.{Is}
-use lib.ListN.{length, drop}
-use Prim.Native.Nat.{◌≤◌, ◌-◌}
 use Rattle.listing_arguments.proofs.digits.Given as goal
 
-abbrev pub invariant-loop-i : goal.invariant-loop-i
-invariant-loop-i l = (l.i ≤ length l.word) × (read_on l.base (Is l.n) (drop l.i l.word) ≡ digits l.base l.word)
-
-abbrev pub decreases-loop-i : goal.decreases-loop-i
-decreases-loop-i l = length l.word - l.i
+abbrev pub invariant-loop-c : goal.invariant-loop-c
+invariant-loop-c l = read_on l.base (Some l.n) (drop l.c-index l.word) ≡ digits l.base l.word

@@ -1,16 +1,14 @@
-use Rattle.listing_arguments.specs.Arguments.{grown}
-use Rattle.listing_arguments.proofs.ArgumentsLaws.{past, fits}
-use borrow.Author.Tests.{lt-ltb, le-ltb}
+use Rattle.listing_arguments.proofs.ArgumentsLaws.{grown_no-digit, grown_past, grown_sum}
+use native.Mathlib.Omega.{arith}
 use Rattle.listing_arguments.proofs.grown.Goals as goal
 
 pub returns-then-base-digit : goal.returns-then-base-digit
-unfolding grown
-returns-then-base-digit c = rw (le-ltb _ _ c.if-base-digit.true)
+returns-then-base-digit c = grown_no-digit _ _ _ c.if-base-digit.true
 
-pub returns-then-digit-base : goal.returns-then-digit-base
-unfolding grown
-returns-then-digit-base c = rw (lt-ltb _ _ c.if-base-digit.false, le-ltb _ _ (past _ _ _ c.requires.0 c.requires.1 c.if-digit-base.true))
+pub returns-in_default : goal.returns-in_default
+returns-in_default c = grown_past _ _ _ (omega arith) (rw c.in_default.is at c.checked_mul.ensures)
 
 pub returns : goal.returns
-unfolding grown
-returns c = rw (lt-ltb _ _ c.if-base-digit.false, lt-ltb _ _ (fits _ _ _ c.requires.0 c.requires.1 c.if-digit-base.false))
+returns c =
+    let product = rw c.in-Some.is at c.checked_mul.ensures in
+    grown_sum _ _ _ _ _ (omega arith) product.1 c.checked_add.ensures

@@ -2,4 +2,4 @@ use Rattle.std.proofs.Common.{◌≤◌, length}
 use Rattle.program_answers.proofs.answer_all.Given as goal
 
 abbrev pub invariant-loop-index : goal.invariant-loop-index
-invariant-loop-index l = (l.start ≤ l.end) × (l.end ≤ length l.input) × (l.at ≤ length l.output)
+invariant-loop-index l = (l.turn.window.end ≤ length l.input) × (l.turn.at ≤ length l.output)

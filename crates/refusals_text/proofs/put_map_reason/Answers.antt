@@ -3,10 +3,6 @@ use Rattle.refusals_text.specs.Sentences.{map_reason, map_reasons, no_reason}
 use Rattle.base.proofs.CasesLaws.{rest}
 use Rattle.refusals_text.proofs.put_map_reason.Goals as goal
 
-pub returns-in-15 : goal.returns-in-15
-unfolding map_reason
-returns-in-15 c = same c.put_text.ensures (rw c.in-15.is)
-
 pub returns-in-16 : goal.returns-in-16
 unfolding map_reason
 returns-in-16 c = same c.put_text-in-16.ensures (rw c.in-16.is)

@@ -8,4 +8,4 @@ unfolding numbered_as
 returns c =
     sentenced (enough _ _ _)
     (then c.put_place-next.ensures
-    (then c.put_reason-next.ensures c.put_form.ensures))
+    (then c.put_reason-next.ensures (rw c.from.ensures at c.put_form.ensures)))

@@ -4,5 +4,5 @@ use Rattle.replay_slots.proofs.code_of.Goals as goal
 
 pub returns : goal.returns
 returns c =
-    let a = c.args in rw (c.code_by.ensures, c.number_in.ensures)
+    let a = c.args in rw (c.code_by.ensures, c.number_of.ensures)
     (good a.more a.i (search rules) (search rules) (search rules))

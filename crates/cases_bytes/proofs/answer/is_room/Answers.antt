@@ -6,50 +6,50 @@ pub returns-then-out-lt-ANSWER : goal.returns-then-out-lt-ANSWER
 unfolding room_for
 returns-then-out-lt-ANSWER c = rw (lt-leb _ _ c.if-out-lt-ANSWER.true)
 
-pub returns-then-code-gt-PAGE : goal.returns-then-code-gt-PAGE
+pub returns-then-of-gt-PAGE : goal.returns-then-of-gt-PAGE
 unfolding room_for
-returns-then-code-gt-PAGE c = rw (le-leb _ _ c.if-out-lt-ANSWER.false, lt-leb _ _ c.if-code-gt-PAGE.true)
+returns-then-of-gt-PAGE c = rw (le-leb _ _ c.if-out-lt-ANSWER.false, lt-leb _ _ c.if-of-gt-PAGE.true)
 
-pub returns-then-locations-gt-TABLE : goal.returns-then-locations-gt-TABLE
+pub returns-then-of-gt-TABLE : goal.returns-then-of-gt-TABLE
 unfolding room_for
-returns-then-locations-gt-TABLE c =
+returns-then-of-gt-TABLE c =
     rw (
       le-leb _ _ c.if-out-lt-ANSWER.false,
-      le-leb _ _ c.if-code-gt-PAGE.false,
-      lt-leb _ _ c.if-locations-gt-TABLE.true,
+      le-leb _ _ c.if-of-gt-PAGE.false,
+      lt-leb _ _ c.if-of-gt-TABLE.true,
     )
 
-pub returns-then-fields-gt-TABLE : goal.returns-then-fields-gt-TABLE
+pub returns-then-of-gt-TABLE-2 : goal.returns-then-of-gt-TABLE-2
 unfolding room_for
-returns-then-fields-gt-TABLE c =
+returns-then-of-gt-TABLE-2 c =
     rw (
       le-leb _ _ c.if-out-lt-ANSWER.false,
-      le-leb _ _ c.if-code-gt-PAGE.false,
-      le-leb _ _ c.if-locations-gt-TABLE.false,
-      lt-leb _ _ c.if-fields-gt-TABLE.true,
+      le-leb _ _ c.if-of-gt-PAGE.false,
+      le-leb _ _ c.if-of-gt-TABLE.false,
+      lt-leb _ _ c.if-of-gt-TABLE-2.true,
     )
 
-pub returns-then-targets-gt-TABLE : goal.returns-then-targets-gt-TABLE
+pub returns-then-of-gt-TABLE-3 : goal.returns-then-of-gt-TABLE-3
 unfolding room_for
-returns-then-targets-gt-TABLE c =
+returns-then-of-gt-TABLE-3 c =
     rw (
       le-leb _ _ c.if-out-lt-ANSWER.false,
-      le-leb _ _ c.if-code-gt-PAGE.false,
-      le-leb _ _ c.if-locations-gt-TABLE.false,
-      le-leb _ _ c.if-fields-gt-TABLE.false,
-      lt-leb _ _ c.if-targets-gt-TABLE.true,
+      le-leb _ _ c.if-of-gt-PAGE.false,
+      le-leb _ _ c.if-of-gt-TABLE.false,
+      le-leb _ _ c.if-of-gt-TABLE-2.false,
+      lt-leb _ _ c.if-of-gt-TABLE-3.true,
     )
 
-pub returns-then-kinds-gt-TABLE : goal.returns-then-kinds-gt-TABLE
+pub returns-then-of-gt-TABLE-4 : goal.returns-then-of-gt-TABLE-4
 unfolding room_for
-returns-then-kinds-gt-TABLE c =
+returns-then-of-gt-TABLE-4 c =
     rw (
       le-leb _ _ c.if-out-lt-ANSWER.false,
-      le-leb _ _ c.if-code-gt-PAGE.false,
-      le-leb _ _ c.if-locations-gt-TABLE.false,
-      le-leb _ _ c.if-fields-gt-TABLE.false,
-      le-leb _ _ c.if-targets-gt-TABLE.false,
-      lt-leb _ _ c.if-kinds-gt-TABLE.true,
+      le-leb _ _ c.if-of-gt-PAGE.false,
+      le-leb _ _ c.if-of-gt-TABLE.false,
+      le-leb _ _ c.if-of-gt-TABLE-2.false,
+      le-leb _ _ c.if-of-gt-TABLE-3.false,
+      lt-leb _ _ c.if-of-gt-TABLE-4.true,
     )
 
 pub returns : goal.returns
@@ -57,9 +57,9 @@ unfolding room_for
 returns c =
     rw (
       le-leb _ _ c.if-out-lt-ANSWER.false,
-      le-leb _ _ c.if-code-gt-PAGE.false,
-      le-leb _ _ c.if-locations-gt-TABLE.false,
-      le-leb _ _ c.if-fields-gt-TABLE.false,
-      le-leb _ _ c.if-targets-gt-TABLE.false,
-      le-leb _ _ c.if-kinds-gt-TABLE.false,
+      le-leb _ _ c.if-of-gt-PAGE.false,
+      le-leb _ _ c.if-of-gt-TABLE.false,
+      le-leb _ _ c.if-of-gt-TABLE-2.false,
+      le-leb _ _ c.if-of-gt-TABLE-3.false,
+      le-leb _ _ c.if-of-gt-TABLE-4.false,
     )

@@ -12,14 +12,14 @@ put_lengths-counted-requires c =
 pub put_code-at-requires : goal.put_code-at-requires
 put_code-at-requires c =
     let room = fits _ _ _ _ _ _ _ (sym c.is_room.ensures ∙ c.if-not-is_room.false) in
-    let args = c.args in
+    let args = c.args.of in
     let head = length-head args.code.now args.locations.now args.fields.now args.targets.now args.kinds.now args.makers.now in
     omega (arith, room.out, room.code, head)
 
 pub put_tables-requires : goal.put_tables-requires
 put_tables-requires c =
     let room = fits _ _ _ _ _ _ _ (sym c.is_room.ensures ∙ c.if-not-is_room.false) in
-    let args = c.args in
+    let args = c.args.of in
     let head = length-head args.code.now args.locations.now args.fields.now args.targets.now args.kinds.now args.makers.now in
     omega (arith, room.out, room.code, room.locations, room.fields, room.targets, room.kinds, room.makers, head)
 
@@ -27,7 +27,7 @@ pub returns : goal.returns
 returns c =
     let fine = sym c.is_room.ensures ∙ c.if-not-is_room.false in
     let room = fits _ _ _ _ _ _ _ fine in
-    let args = c.args in
+    let args = c.args.of in
     let head = length-head args.code.now args.locations.now args.fields.now args.targets.now args.kinds.now args.makers.now in
     let all = length-tables args.locations.now args.fields.now args.targets.now args.kinds.now args.makers.now in
     stored fine (omega (arith, room.out, room.code, room.locations, room.fields, room.targets, room.kinds, room.makers, head, all))

@@ -8,6 +8,3 @@ use Rattle.cases_bytes.proofs.answer.put_table.Given as goal
 abbrev pub invariant-loop-i : goal.invariant-loop-i
 invariant-loop-i l =
     (length l.out ≡ length l.initial.out) × (l.i ≤ length l.table) × (l.out ≡ sets l.initial.out l.at (entries (take l.i l.table)))
-
-abbrev pub decreases-loop-i : goal.decreases-loop-i
-decreases-loop-i l = length l.table - l.i

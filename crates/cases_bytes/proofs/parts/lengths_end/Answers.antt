@@ -5,4 +5,4 @@ use Rattle.cases_bytes.proofs.parts.lengths_end.Goals as goal
 
 pub returns : goal.returns
 unfolding lengths_end
-returns c = (rw c.wide.ensures.0 refl, omega (arith, c.wide.ensures.1))
+returns c = (rw c.from.ensures refl, omega arith)

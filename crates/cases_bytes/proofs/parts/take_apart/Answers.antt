@@ -1,81 +1,78 @@
-use Rattle.cases_bytes.specs.Cases.{no_case, program_at}
-use Rattle.cases_bytes.proofs.CasesLaws.{case-wrong, case-fine, filled_none, filled-front, filled-long, sound, parted}
+use Rattle.cases_bytes.specs.Cases.{program_at}
+use Rattle.cases_bytes.proofs.CasesLaws.{case-wrong, case-fine, filled-front, filled-long, handed_on, parted}
 use lib.ListN.{length-take}
 use native.Mathlib.Omega.{arith}
 use mathlib.Core.Path.{◌∙◌, sym}
 use borrow.Author.Rules.{rules}
 use Rattle.cases_bytes.proofs.parts.take_apart.Goals as goal
 
-pub returns-then-not-is_nothing : goal.returns-then-not-is_nothing
-unfolding no_case
-returns-then-not-is_nothing c =
-    let none = c.no_case.ensures in
-    let wrong = sym c.is_nothing.ensures ∙ c.if-not-is_nothing.true in record { value = none ∙ case-wrong _ _ _ _ c.wrong_with-wrong.ensures wrong; filled = rw none (filled_none _ _); filled_2 = rw none (filled_none _ _); inside = rw none (search rules) }
+pub returns-in_err-checked-clause-value : goal.returns-in_err-checked-clause-value
+returns-in_err-checked-clause-value c =
+    handed_on _ _ c.from_residual.ensures.1 ∙ case-wrong _ _ _ _ _ c.checked.ensures.wrong c.in_err-checked.was
 
 pub lengths_end-end-requires : goal.lengths_end-end-requires
 unfolding program_at
-lengths_end-end-requires c =
-    let inside = sound _ _ _ _ _ c.wrong_with-wrong.ensures c.is_nothing.ensures c.if-not-is_nothing.false in
-    omega (arith, inside.program)
-
-pub parts_of-case-requires : goal.parts_of-case-requires
-parts_of-case-requires c = (sound _ _ _ _ _ c.wrong_with-wrong.ensures c.is_nothing.ensures c.if-not-is_nothing.false).program
+lengths_end-end-requires c = omega (arith, c.in_ok-checked.ensures.inside.1.1)
 
 pub slice_bounds-read_ids-end : goal.slice_bounds-read_ids-end
 slice_bounds-read_ids-end c =
-    let case = parted _ _ _ _ _ _ c.wrong_with-wrong.ensures c.is_nothing.ensures c.if-not-is_nothing.false c.parts_of-case.ensures in
+    let case = parted _ _ _ _ c.in_ok-checked.ensures.inside c.parts_of-case.ensures in
     omega (arith, case.ids)
 
 pub slice_bounds-read_ids-end-2 : goal.slice_bounds-read_ids-end-2
 slice_bounds-read_ids-end-2 c =
-    let case = parted _ _ _ _ _ _ c.wrong_with-wrong.ensures c.is_nothing.ensures c.if-not-is_nothing.false c.parts_of-case.ensures in
+    let case = parted _ _ _ _ c.in_ok-checked.ensures.inside c.parts_of-case.ensures in
     simp length-take (omega (arith, case.ids))
 
 pub read_ids-requires : goal.read_ids-requires
 read_ids-requires c =
-    let case = parted _ _ _ _ _ _ c.wrong_with-wrong.ensures c.is_nothing.ensures c.if-not-is_nothing.false c.parts_of-case.ensures in
+    let case = parted _ _ _ _ c.in_ok-checked.ensures.inside c.parts_of-case.ensures in
     let ends = c.lengths_end-end.ensures in
     simp length-take (omega (arith, case.ids, case.addresses-end, ends.0))
 
-pub overflow_mul-id_count : goal.overflow_mul-id_count
-overflow_mul-id_count c =
-    let case = parted _ _ _ _ _ _ c.wrong_with-wrong.ensures c.is_nothing.ensures c.if-not-is_nothing.false c.parts_of-case.ensures in
+pub overflow_mul-case : goal.overflow_mul-case
+overflow_mul-case c =
+    let case = parted _ _ _ _ c.in_ok-checked.ensures.inside c.parts_of-case.ensures in
     omega (arith, case.addresses-end)
 
 pub overflow_add-end-3 : goal.overflow_add-end-3
 overflow_add-end-3 c =
-    let case = parted _ _ _ _ _ _ c.wrong_with-wrong.ensures c.is_nothing.ensures c.if-not-is_nothing.false c.parts_of-case.ensures in
+    let case = parted _ _ _ _ c.in_ok-checked.ensures.inside c.parts_of-case.ensures in
     let ends = c.lengths_end-end.ensures in
     omega (arith, case.addresses-end, ends.1)
 
 pub slice_bounds-read_addresses-end : goal.slice_bounds-read_addresses-end
 slice_bounds-read_addresses-end c =
-    let case = parted _ _ _ _ _ _ c.wrong_with-wrong.ensures c.is_nothing.ensures c.if-not-is_nothing.false c.parts_of-case.ensures in
+    let case = parted _ _ _ _ c.in_ok-checked.ensures.inside c.parts_of-case.ensures in
     omega (arith, case.addresses)
 
 pub slice_bounds-read_addresses-end-2 : goal.slice_bounds-read_addresses-end-2
 slice_bounds-read_addresses-end-2 c =
-    let case = parted _ _ _ _ _ _ c.wrong_with-wrong.ensures c.is_nothing.ensures c.if-not-is_nothing.false c.parts_of-case.ensures in
+    let case = parted _ _ _ _ c.in_ok-checked.ensures.inside c.parts_of-case.ensures in
     simp length-take (omega (arith, case.addresses))
 
 pub read_addresses-requires : goal.read_addresses-requires
 read_addresses-requires c =
-    let case = parted _ _ _ _ _ _ c.wrong_with-wrong.ensures c.is_nothing.ensures c.if-not-is_nothing.false c.parts_of-case.ensures in
+    let case = parted _ _ _ _ c.in_ok-checked.ensures.inside c.parts_of-case.ensures in
     let ends = c.lengths_end-end.ensures in
     simp length-take (omega (arith, case.addresses, case.addresses-end, ends.0))
 
-pub returns : goal.returns
-returns c =
-    let case = parted _ _ _ _ _ _ c.wrong_with-wrong.ensures c.is_nothing.ensures c.if-not-is_nothing.false c.parts_of-case.ensures in
-    let ends = c.lengths_end-end.ensures in
-    let ids = c.read_ids.ensures in
-    let addresses = c.read_addresses.ensures in record {
-      value = c.parts_of-case.ensures
-          ∙ case-fine _ _ _ _ c.wrong_with-wrong.ensures (sym c.is_nothing.ensures ∙ c.if-not-is_nothing.false);
-      filled = rw (ids, ends.0) (filled-front _ _ _ (omega (arith, case.ids)));
-      filled_2 = rw (addresses, ends.0) (filled-front _ _ _ (omega (arith, case.addresses)));
-      inside = (
-        rw ids (filled-long _ _ _ (omega (arith, case.ids))),
-        (rw addresses (filled-long _ _ _ (omega (arith, case.addresses))), case.program),
-      );
-    }
+pub returns-clause-value : goal.returns-clause-value
+returns-clause-value c = case-fine _ _ _ _ _ _ c.checked.ensures.wrong c.in_ok-checked.was c.parts_of-case.ensures
+
+pub returns-clause-filled : goal.returns-clause-filled
+returns-clause-filled c =
+    let case = parted _ _ _ _ c.in_ok-checked.ensures.inside c.parts_of-case.ensures in
+    rw (c.read_ids.ensures, c.lengths_end-end.ensures.0) (filled-front _ _ _ (omega (arith, case.ids)))
+
+pub returns-clause-filled_2 : goal.returns-clause-filled_2
+returns-clause-filled_2 c =
+    let case = parted _ _ _ _ c.in_ok-checked.ensures.inside c.parts_of-case.ensures in
+    rw (c.read_addresses.ensures, c.lengths_end-end.ensures.0) (filled-front _ _ _ (omega (arith, case.addresses)))
+
+pub returns-clause-inside : goal.returns-clause-inside
+returns-clause-inside c =
+    let case = parted _ _ _ _ c.in_ok-checked.ensures.inside c.parts_of-case.ensures in (
+      rw c.read_ids.ensures (filled-long _ _ _ (omega (arith, case.ids))),
+      (rw c.read_addresses.ensures (filled-long _ _ _ (omega (arith, case.addresses))), case.program),
+    )

@@ -15,14 +15,16 @@ use Rattle.jit_dividing.proofs.muldivmod.emit_div_guard.Goals as goal
 
 pub returns : goal.returns
 returns c =
-    let record-jump = c.record_jump in
-    jumped ((tested c.args.mode c.args.slot.number c.args.width c.args.src) ++
-    (jump (jcc JNE) (near (size (div_by_zero c.args.slot.number c.args.dst))) ∷ op (alu XOR W32 c.args.dst c.args.dst) ∷
-    [])) jmp refl (rw (
-      blanks-append (tested c.args.mode c.args.slot.number c.args.width c.args.src)
-          (jump (jcc JNE) (near (size (div_by_zero c.args.slot.number c.args.dst))) ∷ op (alu XOR W32 c.args.dst c.args.dst)
-          ∷ jump jmp (to (c.args.slot.number + 1)) ∷ []),
-      ← c.skip_of.ensures,
+    let recorded = c.record_jump.ensures in (
+      jumped ((tested c.args.mode c.args.slot.number c.args.width c.args.src) ++
+          (jump (jcc JNE) (near (size (div_by_zero c.args.slot.number c.args.dst))) ∷ op (alu XOR W32 c.args.dst c.args.dst) ∷
+          [])) jmp refl (rw (
+            blanks-append (tested c.args.mode c.args.slot.number c.args.width c.args.src)
+                (jump (jcc JNE) (near (size (div_by_zero c.args.slot.number c.args.dst))) ∷ op (alu XOR W32 c.args.dst c.args.dst)
+                ∷ jump jmp (to (c.args.slot.number + 1)) ∷ []),
+            ← c.skip_of.ensures,
+          )
+          (then c.emit_tested-checked.ensures
+          (then c.emit_jcc-branched.ensures (then c.emit_alu-cleared.ensures (last c.emit_jmp-next.ensures))))) recorded.0,
+      recorded.1,
     )
-    (then c.emit_tested-checked.ensures
-    (then c.emit_jcc-branched.ensures (then c.emit_alu-cleared.ensures (last c.emit_jmp-next.ensures))))) record-jump.ensures

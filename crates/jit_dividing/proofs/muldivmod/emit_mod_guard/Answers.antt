@@ -13,8 +13,10 @@ use Rattle.jit_dividing.proofs.muldivmod.emit_mod_guard.Goals as goal
 
 pub returns : goal.returns
 returns c =
-    let record-jump = c.record_jump in
-    jumped (tested c.args.mode c.args.slot.number c.args.width c.args.src) (jcc JE) refl
-    (rw (blanks-append (tested c.args.mode c.args.slot.number c.args.width c.args.src)
-    (jump (jcc JE) (to (c.args.slot.number + 1)) ∷ [])) (then c.emit_tested-checked.ensures (last c.emit_jcc-next.ensures)))
-    record-jump.ensures
+    let recorded = c.record_jump.ensures in (
+      jumped (tested c.args.mode c.args.slot.number c.args.width c.args.src) (jcc JE) refl
+          (rw (blanks-append (tested c.args.mode c.args.slot.number c.args.width c.args.src)
+          (jump (jcc JE) (to (c.args.slot.number + 1)) ∷ [])) (then c.emit_tested-checked.ensures (last c.emit_jcc-next.ensures)))
+          recorded.0,
+      recorded.1,
+    )

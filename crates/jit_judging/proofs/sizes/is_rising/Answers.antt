@@ -1,10 +1,8 @@
-use Rattle.jit_judging.proofs.SizesLaws.{rising-on, rising-fall, rising-end}
-use Rattle.jit_judging.specs.Sizes.{rising}
-use Prim.Native.Nat.{◌-◌, ◌≤◌}
-use lib.ListN.{length, drop}
-use mathlib.Core.Path.{◌≡◌, refl, sym, ◌∙◌}
-use borrow.Author.Rules.{rules}
+use Rattle.std.proofs.Common.{◌≡◌, ltb, rules, tests}
+use Rattle.std.proofs.lemmas.List.Sorted.{answers_always}
+use Rattle.jit_judging.proofs.SizesLaws.{rising-answer}
 use Rattle.jit_judging.proofs.sizes.is_rising.Goals as goal
 
 pub returns : goal.returns
-returns c = sym (c.loop-k.invariant.1 ∙ rising-end _ c.loop-k.k (search rules))
+returns c =
+    rising-answer c.args.ids.now _ (c.is_sorted_by.ensures.cases (λ x y. ltb x y) (answers_always _ _ _ (λ f a r g q. search (rules, tests))))

@@ -12,8 +12,8 @@ returns-then-short c = (
   omega arith,
 )
 
-pub returns : goal.returns
-returns c = (
+pub returns-else-short : goal.returns-else-short
+returns-else-short c = (
   λ reg. memory-long reg _ _ (sym c.bare.ensures ∙ c.if-bare.false)
       (sym c.short.ensures ∙ c.if-short.false),
   omega arith,

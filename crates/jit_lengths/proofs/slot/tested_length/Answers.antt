@@ -8,8 +8,8 @@ returns-then-mode c =
     let test = c.rexed_length-test.ensures in
     (λ slot below. tested_low args.mode slot args.width args.src c.if-mode.true below test.0, omega (arith, test.1))
 
-pub returns : goal.returns
-returns c =
+pub returns-else-mode : goal.returns-else-mode
+returns-else-mode c =
     let args = c.args in
     let test = c.rexed_length-test.ensures in
     (λ slot below. tested-as-ever args.mode slot args.width args.src c.if-mode.false test.0, omega (arith, test.1))

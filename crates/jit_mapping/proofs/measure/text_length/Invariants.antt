@@ -1,11 +1,5 @@
-use Rattle.jit.proofs.Bounds.{wide-some}
-use Rattle.jit_measuring.specs.Looks.{wide_of}
-use mathlib.Core.Path.{refl}
-use Prim.Native.Nat.{◌-◌, ◌*◌, ◌<◌}
-use lib.ListN.{length}
-use native.Mathlib.Omega.{arith}
-use Rattle.jit_mapping.proofs.WalkedLaws.{Sizing, sizing-begins, low, taken, sizing, sized}
-use borrow.Author.Rules.{rules}
+use Prim.Native.Nat.{◌-◌}
+use Rattle.jit_mapping.proofs.WalkedLaws.{Sizing}
 use Rattle.jit_mapping.proofs.measure.text_length.Given as goal
 
 abbrev pub invariant-loop-slot : goal.invariant-loop-slot

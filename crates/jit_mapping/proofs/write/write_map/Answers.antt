@@ -1,27 +1,18 @@
-use mathlib.Core.Path.{refl}
-use Prim.Native.Nat.{◌+◌, ◌-◌}
-use native.Mathlib.Omega.{arith}
-use Rattle.text.specs.Numerals.{pairs}
-use Rattle.jit.specs.Room.{epilogue_size}
-use Rattle.jit_mapping.specs.Rows.{closed_table}
-use Rattle.jit_mapping.specs.Passes.{Counted}
-use Rattle.jit_mapping.proofs.RowsLaws.{Rowing, rowing-begins, counted-first, closing, rowing, rowed, closed-inside, closed-past}
-use borrow.Author.Rules.{rules}
+use Prim.Native.Nat.{◌+◌}
+use Rattle.jit_mapping.proofs.RowsLaws.{rowing-begins, counted-first, closing, rowing, rowed, closed-inside, closed-past}
 use Rattle.jit_mapping.proofs.write.write_map.Goals as goal
 
 pub loop-k-init : goal.loop-k-init
 loop-k-init c =
     let asked = c.requires.0 in
-    let one = c.one_digit.ensures in
-    ((one.0, counted-first (c.args.base + 0) one.1), rowing-begins _ _ _ _ _ asked.1.0 asked.1.1.1)
+    (counted-first (c.args.base + 0) c.one_digit.ensures, rowing-begins _ _ _ _ _ asked.1.0 asked.1.1.1)
 
 pub close-begun-requires : goal.close-begun-requires
-unfolding pairs
 close-begun-requires c =
     let a = c.args in
     let asked = c.requires.0 in
     let inside = closed-inside a.n a.exit a.locations.now asked.0 c.loop-k-test.true in
-    (refl, (c.loop-k.invariant.0, rw c.place_at-place.ensures (closing c.loop-k.invariant.1 inside asked.1.1.0)))
+    (c.loop-k.invariant.0, rw c.place_at-place.ensures (closing c.loop-k.invariant.1 inside asked.1.1.0))
 
 pub loop-k-preserved : goal.loop-k-preserved
 loop-k-preserved c =

@@ -1,10 +1,5 @@
-use Rattle.jit_measuring.proofs.Seen.{tail_none, tail-torn}
-use native.Mathlib.Omega.{arith}
-use mathlib.Core.Path.{refl, sym, ◌∙◌}
-use mathlib.Core.Bool.{true, false}
 use Prim.Native.Nat.{◌-◌}
-use Rattle.jit_measuring.proofs.Glancing.{Glancing, glancing-begins, glancing-on, glancing-stops, glancing-torn, glancing-ends}
-use borrow.Author.Rules.{rules}
+use Rattle.jit_measuring.proofs.Glancing.{Glancing}
 use Rattle.jit_measuring.proofs.fits.fits.Given as goal
 
 abbrev pub invariant-loop-slot : goal.invariant-loop-slot

@@ -1,10 +1,5 @@
-use Rattle.jit_measuring.proofs.Seen.{tail_none, tail-torn}
-use native.Mathlib.Omega.{arith}
-use mathlib.Core.Path.{refl, sym, ◌∙◌}
 use Prim.Native.Nat.{◌-◌}
-use Rattle.jit_measuring.proofs.LooksLaws.{finds-stop, finds-go}
-use Rattle.jit_measuring.proofs.Measuring.{Measuring, measuring-begins, measuring-stops, measuring-torn, measuring-full, measuring-on, as_before, measuring-ends}
-use borrow.Author.Rules.{rules}
+use Rattle.jit_measuring.proofs.Measuring.{Measuring}
 use Rattle.jit_measuring.proofs.measure.measure.Given as goal
 
 abbrev pub invariant-loop-slot : goal.invariant-loop-slot

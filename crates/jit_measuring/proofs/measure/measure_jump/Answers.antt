@@ -6,7 +6,6 @@ use Rattle.ebpf.specs.declared.kind.Kind.TheVariants.{Jump}
 use Rattle.ebpf.specs.Kinds.{condition_of}
 use native.Mathlib.Omega.{arith}
 use mathlib.Core.Path.{refl}
-use borrow.Author.Rules.{rules}
 use Rattle.jit_measuring.proofs.measure.measure_jump.Goals as goal
 
 pub returns : goal.returns

@@ -1,7 +1,7 @@
 use Rattle.jit_resolving.proofs.Filling.{Filling}
 use Rattle.jit.specs.Translation.{place_of}
 use Rattle.x86.specs.Fill.{filled}
-use Rattle.std.proofs.Common.{◌≡◌, ◌+◌, ◌-◌, length, take}
+use Rattle.std.proofs.Common.{◌≡◌, ◌+◌, length, take}
 use Rattle.jit_resolving.proofs.resolve.resolve_jumps.Given as goal
 
 abbrev pub invariant-loop-k : goal.invariant-loop-k
@@ -9,6 +9,3 @@ invariant-loop-k l =
     Filling (place_of (take (l.n.number + 1) l.locations) l.exit.offset) l.count l.fields l.targets
     (filled (place_of (take (l.n.number + 1) l.locations) l.exit.offset) (take l.count l.fields) (take l.count l.targets) l.initial.code) l.k l.code
     × (length l.code ≡ length l.initial.code)
-
-abbrev pub decreases-loop-k : goal.decreases-loop-k
-decreases-loop-k l = l.count - l.k

@@ -10,9 +10,11 @@ use Rattle.jit_slots.proofs.jump.emit_jump.Goals as goal
 
 pub returns : goal.returns
 returns c =
-    let record-jump = c.record_jump in
-    let condition = condition_of c.args.i.opc in
-    rw (← c.target_of-target.ensures) (jumped (op (compare condition c.args.width c.args.source c.args.i) ∷ [])
-    (jcc (cond_of condition)) refl
-    (rw (← c.condition_byte.ensures) (then c.emit_compare-compared.ensures (last c.emit_jcc-next.ensures)))
-    record-jump.ensures)
+    let recorded = c.record_jump.ensures in
+    let condition = condition_of c.args.i.opc in (
+      rw (← c.target_of-target.ensures) (jumped (op (compare condition c.args.width c.args.source c.args.i) ∷ [])
+          (jcc (cond_of condition)) refl
+          (rw (← c.condition_byte.ensures) (then c.emit_compare-compared.ensures (last c.emit_jcc-next.ensures)))
+          recorded.0),
+      recorded.1,
+    )

@@ -12,8 +12,10 @@ use Rattle.jit_slots.proofs.jump.emit_local_call.Goals as goal
 
 pub returns : goal.returns
 returns c =
-    let record-jump = c.record_jump-recorded in
-    emits_then (call_saves ++ (jump call (to c.args.target) ∷ [])) call_restores
-    (jumped call_saves call refl (rw (blanks-append call_saves (jump call (to c.args.target) ∷ []))
-    (then c.emit_saved_registers-saved.ensures (last c.emit_call-called.ensures))) record-jump.ensures)
-    (plainly call_restores refl c.emit_restored_registers-at.ensures)
+    let recorded = c.record_jump.ensures in (
+      emits_then (call_saves ++ (jump call (to c.args.target) ∷ [])) call_restores
+          (jumped call_saves call refl (rw (blanks-append call_saves (jump call (to c.args.target) ∷ []))
+          (then c.emit_saved_registers-saved.ensures (last c.emit_call-called.ensures))) recorded.0)
+          (plainly call_restores refl c.emit_restored_registers.ensures),
+      recorded.1,
+    )

@@ -1,13 +1,14 @@
-use native.Mathlib.Omega.{arith}
+use Rattle.std.proofs.lemmas.Result.{err_from_is_err_and}
 use Rattle.jit_translate.proofs.DecidedLaws.{unsized, judged}
-use borrow.Author.Rules.{rules}
 use Rattle.jit_translate.proofs.translate.decide_in.Goals as goal
 
-pub returns-in-Not : goal.returns-in-Not
-returns-in-Not c = unsized _ c.sizes.ensures c.in-Not.is
+pub returns-in_err-sized : goal.returns-in_err-sized
+returns-in_err-sized c =
+    let p = err_from_is_err_and c.from_residual.result c.from_residual.ensures.1 in
+    rw (p.1, p.2) (unsized _ c.sizes-sized.ensures c.in_err-sized.was)
 
-pub returns-in-Good : goal.returns-in-Good
-returns-in-Good c =
+pub returns : goal.returns
+returns c =
     judged _
-    c.sizes.ensures c.in-Good.is
+    c.sizes-sized.ensures c.in_ok-sized.was
     c.prologue_size.ensures.0 c.judge.ensures

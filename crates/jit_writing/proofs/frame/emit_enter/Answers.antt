@@ -40,6 +40,8 @@ returns c =
     let emit-alu-imm = c.emit_alu_imm32-stacked.ensures in
     let emit-call = c.emit_call-called.ensures in
     let emit-jmp = c.emit_jmp-jumped.ensures in
-    let record-jump = c.record_jump.ensures in
-    jumped (op (alu MOV W64 RSP RBP) ∷ op (alu_imm SUB W64 RSP 512) ∷ jump call (near 5) ∷ []) jmp refl
-    (then emit-alu (then emit-alu-imm (then emit-call (last emit-jmp)))) record-jump
+    let recorded = c.record_jump.ensures in (
+      jumped (op (alu MOV W64 RSP RBP) ∷ op (alu_imm SUB W64 RSP 512) ∷ jump call (near 5) ∷ []) jmp refl
+          (then emit-alu (then emit-alu-imm (then emit-call (last emit-jmp)))) recorded.0,
+      recorded.1,
+    )

@@ -54,6 +54,8 @@ returns c =
     let emit-enter = c.emit_enter.ensures in
     let before = saves ++ (keep_packet ++ argument flags) in
     let parts = sym (blanks-append (saves ++ keep_packet) (argument flags)) ∙ ap blanks (append_assoc saves keep_packet (argument flags)) in
-    let wrote = same (then emit-saves emit-argument) parts in
-    rw (← append_assoc saves (keep_packet ++ argument flags) enter)
-    (emits_then before enter (plainly before (no-jumps-before flags) wrote) emit-enter)
+    let wrote = same (then emit-saves emit-argument) parts in (
+      rw (← append_assoc saves (keep_packet ++ argument flags) enter)
+          (emits_then before enter (plainly before (no-jumps-before flags) wrote) emit-enter.0),
+      emit-enter.1,
+    )

@@ -8,6 +8,3 @@ invariant-loop-i l =
     × ((l.options.helpers ≤ length l.ids)
     × ((l.options.helpers ≤ length l.addresses)
     × ((length l.ids ≡ length l.initial.ids) × (length l.addresses ≡ length l.initial.addresses))))
-
-abbrev pub decreases-loop-i : goal.decreases-loop-i
-decreases-loop-i l = l.count - l.i

@@ -3,4 +3,6 @@ use Rattle.program_replay.proofs.HeaderLaws.{read}
 use Rattle.program_replay.proofs.capture.replay_source.Goals as goal
 
 pub replay_ordered-requires : goal.replay_ordered-requires
-replay_ordered-requires c = (read _ _ _ (sym c.header_of.ensures ∙ c.in-Pcap.is), c.fill-read.ensures.1)
+replay_ordered-requires c =
+    let filled = rw c.in-Ok.is at c.fill-read.ensures in
+    (read _ _ _ (sym c.header_of.ensures ∙ c.in-Some.is), filled.1)

@@ -1,5 +1,6 @@
-use Rattle.std.proofs.Common.{◌≡◌, ◌-◌, length, refl, ◌∙◌, arith, rules}
-use Rattle.pcap.proofs.CaptureLaws.{bounds}
+use Rattle.std.proofs.Common.{◌≡◌, ◌-◌, length, refl, ◌∙◌, arith, rules, ⊎_elim}
+use Rattle.pcap.specs.declared.Record.{Record}
+use Rattle.pcap.proofs.CaptureLaws.{bounds, Stops}
 use Rattle.replay_capture.proofs.SoFarLaws.{SoFar, starts, there, has_room, goes_on, ends, stands}
 use Rattle.replay_capture.proofs.window.run_records.Goals as goal
 
@@ -90,27 +91,9 @@ loop-n-preserved c =
 
 pub returns-in-End : goal.returns-in-End
 returns-in-End c =
+    let on = c.loop-n in
     let at = c.args in
-    ends at.prog.now at.order at.window.now _ c.loop-n.progress
-    c.loop-n.counts c.loop-n.copy c.loop-n.kept
-    c.loop-n.invariant.0 _
-    (stands at.order at.window.now c.loop-n.progress.used c.record_of.ensures
-    c.in-End.is) tt
-
-pub returns-in-Partial : goal.returns-in-Partial
-returns-in-Partial c =
-    let at = c.args in
-    ends at.prog.now at.order at.window.now _ c.loop-n.progress
-    c.loop-n.counts c.loop-n.copy c.loop-n.kept
-    c.loop-n.invariant.0 _
-    (stands at.order at.window.now c.loop-n.progress.used c.record_of.ensures
-    c.in-Partial.is) tt
-
-pub returns-in-TooLong : goal.returns-in-TooLong
-returns-in-TooLong c =
-    let at = c.args in
-    ends at.prog.now at.order at.window.now _ c.loop-n.progress
-    c.loop-n.counts c.loop-n.copy c.loop-n.kept
-    c.loop-n.invariant.0 _
-    (stands at.order at.window.now c.loop-n.progress.used c.record_of.ensures
-    c.in-TooLong.is) tt
+    let stop = λ (q : Record) (e : c.record_of.result ≡ q) (h : Stops q).
+    ends at.prog.now at.order at.window.now _ on.progress on.counts on.copy on.kept on.invariant.0 q
+    (stands at.order at.window.now on.progress.used c.record_of.ensures e) h in
+    ⊎_elim (λ e. stop _ e tt) (⊎_elim (λ e. stop _ e tt) (λ e. stop _ e tt)) c.in-End.is

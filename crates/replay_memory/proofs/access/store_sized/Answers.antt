@@ -1,13 +1,13 @@
-use Rattle.std.proofs.Common.{length, refl, rules}
+use Rattle.std.proofs.Common.{Some, length, ap, ◌∙◌, rules}
 use Rattle.replay_memory.proofs.AccessLaws.{access, Placed, found, packet-holds, stack-holds}
 use Rattle.replay_memory.proofs.access.store_sized.Goals as goal
 
 pub store-requires : goal.store-requires
 store-requires c =
     let placed : Placed c.args.z (length c.args.packet.now) (length c.args.stack.now) c.args.address c.place_of.result = record { areas = c.requires; place = rw c.bytes_of.ensures at c.place_of.ensures } in
-    packet-holds placed c.in-Packet.is
+    packet-holds placed (c.in-Some-Packet.is ∙ ap Some c.in-Some-Packet.field-0-is)
 
-pub store-requires-in-Stack : goal.store-requires-in-Stack
-store-requires-in-Stack c =
+pub store-requires-in-Some-Stack : goal.store-requires-in-Some-Stack
+store-requires-in-Some-Stack c =
     let placed : Placed c.args.z (length c.args.packet.now) (length c.args.stack.now) c.args.address c.place_of.result = record { areas = c.requires; place = rw c.bytes_of.ensures at c.place_of.ensures } in
-    stack-holds placed c.in-Stack.is
+    stack-holds placed (c.in-Some-Stack.is ∙ ap Some c.in-Some-Stack.field-0-is)

@@ -1,4 +1,4 @@
-use Rattle.std.proofs.Common.{◌≡◌, ◌/◌, length, refl, ap, ◌∙◌, arith, length-set, rules}
+use Rattle.std.proofs.Common.{◌≡◌, ◌+◌, ◌-◌, ◌/◌, length, refl, ap, ◌∙◌, arith, length-set, rules}
 use Rattle.replay.specs.Memory.{State}
 use Rattle.replay.specs.Run.{run_from, step_limit}
 use Rattle.replay.proofs.RunLaws.{behind-the-end, nothing-there}
@@ -8,42 +8,44 @@ use Rattle.replay_run.proofs.run.run.Goals as goal
 
 pub returns-then-n-slot : goal.returns-then-n-slot
 returns-then-n-slot c =
-    let on = c.loop-left in
+    let on = c.loop in
+    let left = step_limit - on.counter in
     let at = c.args in
-    after-absent _ _ at.prog.now on.slot (state on.regs on.stack on.packet) on.counts on.left c.loop-left-test.true
+    after-absent _ _ at.prog.now on.slot (state on.regs on.stack on.packet) on.counts left (omega (arith, c.loop-test.true))
     on.invariant.0
     (nothing-there at.prog.now on.slot _ (behind-the-end at.prog.now on.slot (omega (arith, on.invariant.1.1, c.if-n-slot.true))))
 
 pub returns-in-Exit : goal.returns-in-Exit
 returns-in-Exit c =
-    let on = c.loop-left in
+    let on = c.loop in
+    let left = step_limit - on.counter in
     let at = c.args in
     let stepped = rw c.in-Exit.is at
     c.step.ensures in
-    rw c.wrapping_add_u64-in-Exit.ensures.value
-    (after-end _ _ at.prog.now on.slot (state on.regs on.stack on.packet) on.counts on.left
-    c.loop-left-test.true on.invariant.0
+    (after-end _ _ at.prog.now on.slot (state on.regs on.stack on.packet) on.counts left
+    (omega (arith, c.loop-test.true)) on.invariant.0
     stepped.turn)
 
 pub returns-in-Access : goal.returns-in-Access
 returns-in-Access c =
-    let on = c.loop-left in
+    let on = c.loop in
+    let left = step_limit - on.counter in
     let at = c.args in
     let stepped = rw c.in-Access.is at
     c.step.ensures in
-    rw c.wrapping_add_u64-in-Access.ensures.value
-    (after-end _ _ at.prog.now on.slot (state on.regs on.stack on.packet) on.counts on.left
-    c.loop-left-test.true on.invariant.0
+    (after-end _ _ at.prog.now on.slot (state on.regs on.stack on.packet) on.counts left
+    (omega (arith, c.loop-test.true)) on.invariant.0
     stepped.turn)
 
 pub returns-in-Absent : goal.returns-in-Absent
 returns-in-Absent c =
-    let on = c.loop-left in
+    let on = c.loop in
+    let left = step_limit - on.counter in
     let at = c.args in
     let stepped = rw c.in-Absent.is at c.step.ensures in
     let stopped =
-    after-absent _ _ at.prog.now on.slot (state on.regs on.stack on.packet) on.counts on.left
-    c.loop-left-test.true
+    after-absent _ _ at.prog.now on.slot (state on.regs on.stack on.packet) on.counts left
+    (omega (arith, c.loop-test.true))
     on.invariant.0 stepped.turn in
     record {
       how = stopped.how;
@@ -51,15 +53,17 @@ returns-in-Absent c =
       packet_is = ap (λ (t : State). t.packet) (stepped.same stepped.turn) ∙ stopped.packet_is;
     }
 
-pub loop-left-preserved : goal.loop-left-preserved
-loop-left-preserved c =
-    let on = c.loop-left in
+pub loop-preserved : goal.loop-preserved
+loop-preserved c =
+    let on = c.loop in
+    let left = step_limit - on.counter in
     let at = c.args in
+    let next : left - 1 ≡ step_limit - (on.counter + 1) = omega arith in
     let stepped = rw c.in-Go.is at
     c.step.ensures in (
-      rw c.wrapping_add_u64.ensures.value
-          (after-goes _ _ at.prog.now on.slot (state on.regs on.stack on.packet) on.counts on.left
-          c.loop-left-test.true on.invariant.0
+      rw (← next)
+          (after-goes _ _ at.prog.now on.slot (state on.regs on.stack on.packet) on.counts left
+          (omega (arith, c.loop-test.true)) on.invariant.0
           stepped.turn),
       (
         record {
@@ -74,7 +78,8 @@ loop-left-preserved c =
 
 pub returns : goal.returns
 returns c =
-    let on = c.loop-left in
+    let on = c.loop in
+    let left = step_limit - on.counter in
     let at = c.args in
-    at-limit _ _ at.prog.now on.slot (state on.regs on.stack on.packet) on.counts on.left (omega (arith, c.loop-left-test.false))
+    at-limit _ _ at.prog.now on.slot (state on.regs on.stack on.packet) on.counts left (omega (arith, c.loop-test.false))
     on.invariant.0

@@ -56,8 +56,8 @@ branch_low-requires c =
     (fetches at.prog.now at.slot at.code at.regs.now at.stack.now at.packet.now
     c.requires (λ z. omega (arith, z, c.in-6.is)))
 
-pub step_arithmetic_64-requires : goal.step_arithmetic_64-requires
-step_arithmetic_64-requires c =
+pub step_arithmetic-requires : goal.step_arithmetic-requires
+step_arithmetic-requires c =
     let at = c.args in
     (fetches at.prog.now at.slot at.code at.regs.now at.stack.now at.packet.now
     c.requires (λ z. omega (arith, z, past 7 _ c.in_default.in_default-own.rest)))
@@ -125,7 +125,7 @@ pub returns-in_default : goal.returns-in_default
 returns-in_default c =
     let at = c.args in
     went_on at.prog.now at.slot _ _
-    (rw c.step_arithmetic_64.ensures
+    (rw c.step_arithmetic.ensures
     (wide-turn at.prog.now at.slot at.code at.regs.now at.stack.now at.packet.now
     c.requires
     (omega (arith, past 7 _ c.in_default.in_default-own.rest))))

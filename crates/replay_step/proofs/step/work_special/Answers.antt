@@ -11,15 +11,15 @@ dst_of-dst-requires c =
     let t = wide-there at.prog.now at.slot at.code c.requires.0.code_is c.in-24.is in
     omega (arith, t.inside)
 
-pub imm_of-low-requires : goal.imm_of-low-requires
-imm_of-low-requires c =
+pub imm_of-requires : goal.imm_of-requires
+imm_of-requires c =
     let at = c.args in
     let t = wide-there at.prog.now at.slot at.code c.requires.0.code_is
     c.in-24.is in
     omega (arith, t.inside)
 
-pub upper_of-high-requires : goal.upper_of-high-requires
-upper_of-high-requires c =
+pub upper_of-requires : goal.upper_of-requires
+upper_of-requires c =
     let at = c.args in
     let t = wide-there at.prog.now at.slot at.code c.requires.0.code_is
     c.in-24.is in
@@ -43,7 +43,7 @@ pub returns-in-24 : goal.returns-in-24
 returns-in-24 c =
     let at = c.args in
     went_on at.prog.now at.slot _ _
-    (rw (c.dst_of-dst.ensures, c.imm_of-low.ensures, c.upper_of-high.ensures)
+    (rw (c.dst_of-dst.ensures, c.from-low.ensures, c.imm_of.ensures, c.from-high.ensures, c.upper_of.ensures)
     (wide-loads at.prog.now at.slot at.code c.requires.0.code_is
     c.in-24.is
     at.regs.now at.stack.now at.packet.now))

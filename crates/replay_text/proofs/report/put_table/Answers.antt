@@ -26,7 +26,7 @@ loop-slot-preserved c =
     let test = c.loop-slot-test.true in (
       omega arith,
       kept {ys = row} said ∙ looped.invariant.1,
-      second-next a.prog.now looped.slot looped.second _ looped.invariant.2 c.is_second_next-second.ensures,
+      second-next a.prog.now looped.slot looped.second _ looped.invariant.2 c.opens-second.ensures,
       turn {xs = row} looped.invariant.3 said (rw looped.invariant.2 (rows_left a.prog.now columns a.counts.now _ looped.slot test)),
     )
 

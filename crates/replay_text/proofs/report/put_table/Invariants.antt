@@ -13,6 +13,3 @@ abbrev pub invariant-loop-slot : goal.invariant-loop-slot
 invariant-loop-slot l =
     (l.slot ≤ l.slots) × (length l.out ≡ length l.initial.out) × (l.second ≡ is_second l.prog l.slot)
     × Leads l.initial.out l.at (rows_from l.slots l.prog l.columns l.counts 0) l.out l.next (rows_from (l.slots - l.slot) l.prog l.columns l.counts l.slot)
-
-abbrev pub decreases-loop-slot : goal.decreases-loop-slot
-decreases-loop-slot l = l.slots - l.slot

@@ -3,4 +3,4 @@ use Rattle.text.proofs.digits.count_decimal.Goals as goal
 
 pub returns : goal.returns
 unfolding decimal
-returns c = c.count_digits.ensures
+returns c = c.count.ensures

@@ -7,5 +7,5 @@ use Rattle.text.proofs.digits.count_hex.Goals as goal
 pub returns : goal.returns
 returns c =
     let n = c.args.n in
-    let counted = c.count_digits.ensures in
+    let counted = c.count.ensures in
     (counted.0 ∙ ap length (hex-is n (omega arith)), counted.1)

@@ -1,27 +1,15 @@
-use Rattle.x86_encoding.proofs.BytesLaws.{number8}
+use mathlib.Core.Path.{◌∙◌}
+use native.Mathlib.Omega.{arith}
+use lib.ListN.{length-drop}
+use Rattle.std.proofs.lemmas.List.{drop-drop}
+use Rattle.x86_encoding.proofs.BytesLaws.{number-short, number8}
 use Rattle.x86_encoding.proofs.bytes.eight_at.Goals as goal
 
-pub returns-in_default : goal.returns-in_default
-returns-in_default c = λ k. rw (number8, c.four_at.ensures, c.in_default.is)
-
-pub returns-in_default-four_at : goal.returns-in_default-four_at
-returns-in_default-four_at c =
-    λ k. rw (
-      number8,
-      c.four_at.ensures,
-      c.in-Is.is,
-      c.four_at-2.ensures,
-      c.in_default-four_at.is,
-    )
+pub returns-in_err-bytes : goal.returns-in_err-bytes
+returns-in_err-bytes c =
+    let args = c.args in
+    let short = c.in_err-bytes.ensures in
+    λ k. rw c.from_residual.ensures (number-short 8 k _ (omega (arith, length-drop args.at args.code.now)))
 
 pub returns : goal.returns
-returns c =
-    λ k. rw (
-      number8,
-      c.four_at.ensures,
-      c.in-Is.is,
-      c.four_at-2.ensures,
-      c.in-Is-four_at.is,
-      c.wide64.ensures.0,
-      c.wide64-2.ensures.0,
-    )
+returns c = λ k. rw (c.from_le_bytes.ensures) (number8 k _ _ c.in_ok-bytes.ensures ∙ rw drop-drop)

@@ -1,24 +1,15 @@
-use native.Mathlib.Nat.{add-zero}
-use Rattle.x86.specs.Decode.{number}
+use mathlib.Core.Path.{◌∙◌}
+use native.Mathlib.Omega.{arith}
+use lib.ListN.{length-drop}
+use Rattle.std.proofs.lemmas.List.{drop-drop}
+use Rattle.x86_encoding.proofs.BytesLaws.{number-short, number2}
 use Rattle.x86_encoding.proofs.bytes.two_at.Goals as goal
 
-pub returns-in_default : goal.returns-in_default
-unfolding number
-returns-in_default c = λ k. rw (c.byte_at.ensures, c.in_default.is)
-
-pub returns-in_default-byte_at : goal.returns-in_default-byte_at
-unfolding number
-returns-in_default-byte_at c = λ k. rw (c.byte_at.ensures, c.in-Is.is, c.byte_at-2.ensures, c.in_default-byte_at.is)
+pub returns-in_err-bytes : goal.returns-in_err-bytes
+returns-in_err-bytes c =
+    let args = c.args in
+    let short = c.in_err-bytes.ensures in
+    λ k. rw c.from_residual.ensures (number-short 2 k _ (omega (arith, length-drop args.at args.code.now)))
 
 pub returns : goal.returns
-unfolding number
-returns c =
-    λ k. rw (
-      c.byte_at.ensures,
-      c.in-Is.is,
-      c.byte_at-2.ensures,
-      c.in-Is-byte_at.is,
-      c.wide32.ensures.0,
-      c.wide32-2.ensures.0,
-      add-zero,
-    )
+returns c = λ k. rw (c.from.ensures, c.from_le_bytes.ensures) (number2 k _ _ c.in_ok-bytes.ensures ∙ rw drop-drop)

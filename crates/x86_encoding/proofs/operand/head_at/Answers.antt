@@ -2,19 +2,20 @@ use Rattle.x86.specs.Decode.{with_rex}
 use Rattle.base.proofs.Tests.{eqb-true, eqb-false}
 use Rattle.x86_encoding.proofs.operand.head_at.Goals as goal
 
-pub returns-in_default : goal.returns-in_default
+pub returns-in_err-b : goal.returns-in_err-b
 unfolding with_rex
-returns-in_default c = λ k. rw (c.byte_at.ensures, c.in_default.is)
+returns-in_err-b c = λ k. rw (c.byte_at.ensures, c.in_err-b.was, c.from_residual.ensures)
 
-pub returns-in_default-byte_at : goal.returns-in_default-byte_at
+pub returns-in_err-opcode : goal.returns-in_err-opcode
 unfolding with_rex
-returns-in_default-byte_at c =
+returns-in_err-opcode c =
     λ k. rw (
       c.byte_at.ensures,
-      c.in-Is.is,
+      c.in_ok-b.was,
       eqb-true _ _ c.if-b-eq4.true,
       c.byte_at-then-b-eq4.ensures,
-      c.in_default-byte_at.is,
+      c.in_err-opcode.was,
+      c.from_residual-in_err-opcode.ensures,
     )
 
 pub returns-then-b-eq4 : goal.returns-then-b-eq4
@@ -22,13 +23,13 @@ unfolding with_rex
 returns-then-b-eq4 c =
     λ k. rw (
       c.byte_at.ensures,
-      c.in-Is.is,
+      c.in_ok-b.was,
       eqb-true _ _ c.if-b-eq4.true,
       c.byte_at-then-b-eq4.ensures,
-      c.in-Is-byte_at.is,
+      c.in_ok-opcode.was,
       c.rex_of.ensures,
     )
 
 pub returns : goal.returns
 unfolding with_rex
-returns c = λ k. rw (c.byte_at.ensures, c.in-Is.is, eqb-false _ _ c.if-b-eq4.false, c.no_rex.ensures)
+returns c = λ k. rw (c.byte_at.ensures, c.in_ok-b.was, eqb-false _ _ c.if-b-eq4.false, c.no_rex.ensures)

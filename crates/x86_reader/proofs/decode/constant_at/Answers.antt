@@ -1,5 +1,4 @@
 use Rattle.x86_forms.proofs.ByRex.{constant}
-use borrow.Author.Rules.{rules}
 use Rattle.x86_reader.proofs.decode.constant_at.Goals as goal
 
 pub returns : goal.returns

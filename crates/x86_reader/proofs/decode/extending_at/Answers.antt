@@ -1,7 +1,6 @@
 use Rattle.x86_forms.proofs.ByRex.{load_byte, load-two}
 use Rattle.base.proofs.Tests.{eqb-false}
 use Rattle.x86.specs.Decode.{opcode}
-use borrow.Author.Rules.{rules}
 use Rattle.x86_reader.proofs.decode.extending_at.Goals as goal
 
 pub returns-in-W64 : goal.returns-in-W64

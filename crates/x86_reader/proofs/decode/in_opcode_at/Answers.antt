@@ -1,6 +1,5 @@
 use Rattle.x86_reader.proofs.Unknown.{middle-unknown}
 use Rattle.x86.specs.Decode.{opcode}
-use borrow.Author.Rules.{rules}
 use Rattle.x86_reader.proofs.decode.in_opcode_at.Goals as goal
 
 pub returns-in-10 : goal.returns-in-10

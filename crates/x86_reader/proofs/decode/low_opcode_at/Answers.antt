@@ -1,7 +1,6 @@
 use Rattle.x86_reader.proofs.Unknown.{low-unknown}
 use mathlib.Core.Path.{refl}
 use Rattle.x86.specs.Decode.{opcode}
-use borrow.Author.Rules.{rules}
 use Rattle.x86_reader.proofs.decode.low_opcode_at.Goals as goal
 
 pub returns-in-1 : goal.returns-in-1

@@ -1,6 +1,5 @@
 use mathlib.Core.Path.{refl}
 use Rattle.x86.specs.Decode.{opcode}
-use borrow.Author.Rules.{rules}
 use Rattle.x86_reader.proofs.decode.middle_opcode_at.Goals as goal
 
 pub returns-in-133 : goal.returns-in-133

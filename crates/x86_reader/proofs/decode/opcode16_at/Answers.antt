@@ -1,7 +1,6 @@
 use Rattle.x86_forms.proofs.ByRex.{store16, rotate16, store_two}
 use Rattle.base.proofs.Tests.{eqb-false}
 use Rattle.x86.specs.Decode.{opcode16}
-use borrow.Author.Rules.{rules}
 use Rattle.x86_reader.proofs.decode.opcode16_at.Goals as goal
 
 pub returns-in-W64 : goal.returns-in-W64

@@ -1,6 +1,5 @@
 use Rattle.x86_forms.proofs.ByRex.{store-register-byte}
 use Rattle.x86.specs.Decode.{opcode}
-use borrow.Author.Rules.{rules}
 use Rattle.x86_reader.proofs.decode.store_register_byte_at.Goals as goal
 
 pub returns-then-x : goal.returns-then-x

@@ -1,83 +1,22 @@
-use mathlib.Core.Path.{refl}
-use Rattle.base.proofs.Tests.{eqb-false}
-use Rattle.x86.specs.Decode.{opcode}
-use borrow.Author.Rules.{rules}
+use lib.ListN.{drop}
+use mathlib.Core.Path.{◌∙◌, refl}
+use Rattle.x86.specs.Instr.{op, alu_imm}
+use Rattle.x86.specs.Decode.{opcode, number, got}
+use Rattle.x86_reader.proofs.ByExtension.{group1}
 use Rattle.x86_reader.proofs.groups.group1_at.Goals as goal
 
-pub returns-in_default : goal.returns-in_default
+pub returns-in_err-reg : goal.returns-in_err-reg
 unfolding opcode
-returns-in_default c = rw (c.registers_at.ensures _ (λ n b v l. refl), c.in_default.is)
+returns-in_err-reg c = rw (c.registers_at.ensures _ (λ n b v l. refl), c.in_err-reg.was, c.from_residual.ensures)
 
-pub returns-in-0 : goal.returns-in-0
+pub returns-in_err-group1_of : goal.returns-in_err-group1_of
 unfolding opcode
-returns-in-0 c =
-    rw (
-      c.registers_at.ensures _ (λ n b v l. refl),
-      c.in-Is.is,
-      c.in-0.is,
-      c.alu_imm_at.ensures,
-    )
+returns-in_err-group1_of c =
+    rw (c.registers_at.ensures _ (λ n b v l. refl), c.in_ok-reg.was, c.from_residual-in_err-group1_of.ensures)
+    (group1 (λ o. number 4 (λ i. got (op (alu_imm o c.args.x.width c.in_ok-reg.d i)))) c.in_ok-reg.reg (drop c.in_ok-reg.next c.args.code.now) c.in_err-group1_of.ensures)
 
-pub returns-in-1 : goal.returns-in-1
+pub returns : goal.returns
 unfolding opcode
-returns-in-1 c =
-    rw (
-      c.registers_at.ensures _ (λ n b v l. refl),
-      c.in-Is.is,
-      c.in-1.is,
-      c.alu_imm_at-in-1.ensures,
-    )
-
-pub returns-in-4 : goal.returns-in-4
-unfolding opcode
-returns-in-4 c =
-    rw (
-      c.registers_at.ensures _ (λ n b v l. refl),
-      c.in-Is.is,
-      c.in-4.is,
-      c.alu_imm_at-in-4.ensures,
-    )
-
-pub returns-in-5 : goal.returns-in-5
-unfolding opcode
-returns-in-5 c =
-    rw (
-      c.registers_at.ensures _ (λ n b v l. refl),
-      c.in-Is.is,
-      c.in-5.is,
-      c.alu_imm_at-in-5.ensures,
-    )
-
-pub returns-in-6 : goal.returns-in-6
-unfolding opcode
-returns-in-6 c =
-    rw (
-      c.registers_at.ensures _ (λ n b v l. refl),
-      c.in-Is.is,
-      c.in-6.is,
-      c.alu_imm_at-in-6.ensures,
-    )
-
-pub returns-in-7 : goal.returns-in-7
-unfolding opcode
-returns-in-7 c =
-    rw (
-      c.registers_at.ensures _ (λ n b v l. refl),
-      c.in-Is.is,
-      c.in-7.is,
-      c.alu_imm_at-in-7.ensures,
-    )
-
-pub returns-in_default-2 : goal.returns-in_default-2
-unfolding opcode
-returns-in_default-2 c =
-    rw (
-      c.registers_at.ensures _ (λ n b v l. refl),
-      c.in-Is.is,
-      eqb-false _ _ c.in_default-2.in_default-2-own.rest.0.0.0.0.0.1,
-      eqb-false _ _ c.in_default-2.in_default-2-own.rest.0.0.0.0.1,
-      eqb-false _ _ c.in_default-2.in_default-2-own.rest.0.0.0.1,
-      eqb-false _ _ c.in_default-2.in_default-2-own.rest.0.0.1,
-      eqb-false _ _ c.in_default-2.in_default-2-own.rest.0.1,
-      eqb-false _ _ c.in_default-2.in_default-2-own.rest.1,
-    )
+returns c =
+    rw (c.registers_at.ensures _ (λ n b v l. refl), c.in_ok-reg.was)
+    (group1 (λ o. number 4 (λ i. got (op (alu_imm o c.args.x.width c.in_ok-reg.d i)))) c.in_ok-reg.reg (drop c.in_ok-reg.next c.args.code.now) c.in_ok-group1_of.ensures ∙ c.alu_imm_at.ensures)

@@ -1,32 +1,22 @@
+use lib.ListN.{drop}
 use mathlib.Core.Path.{refl}
-use Rattle.base.proofs.Tests.{eqb-false}
-use Rattle.x86.specs.Decode.{opcode}
-use borrow.Author.Rules.{rules}
+use Rattle.x86.specs.Instr.{op, shift_cl}
+use Rattle.x86.specs.Decode.{opcode, got}
+use Rattle.x86_reader.proofs.ByExtension.{group2}
 use Rattle.x86_reader.proofs.groups.group2_cl_at.Goals as goal
 
-pub returns-in_default : goal.returns-in_default
+pub returns-in_err-reg : goal.returns-in_err-reg
 unfolding opcode
-returns-in_default c = rw (c.registers_at.ensures _ (λ n b v l. refl), c.in_default.is)
+returns-in_err-reg c = rw (c.registers_at.ensures _ (λ n b v l. refl), c.in_err-reg.was, c.from_residual.ensures)
 
-pub returns-in-4 : goal.returns-in-4
+pub returns-in_err-group2_of : goal.returns-in_err-group2_of
 unfolding opcode
-returns-in-4 c = rw (c.registers_at.ensures _ (λ n b v l. refl), c.in-Is.is, c.in-4.is)
+returns-in_err-group2_of c =
+    rw (c.registers_at.ensures _ (λ n b v l. refl), c.in_ok-reg.was, c.from_residual-in_err-group2_of.ensures)
+    (group2 (λ o. got (op (shift_cl o c.args.x.width c.in_ok-reg.d))) c.in_ok-reg.reg (drop c.in_ok-reg.next c.args.code.now) c.in_err-group2_of.ensures)
 
-pub returns-in-5 : goal.returns-in-5
+pub returns : goal.returns
 unfolding opcode
-returns-in-5 c = rw (c.registers_at.ensures _ (λ n b v l. refl), c.in-Is.is, c.in-5.is)
-
-pub returns-in-7 : goal.returns-in-7
-unfolding opcode
-returns-in-7 c = rw (c.registers_at.ensures _ (λ n b v l. refl), c.in-Is.is, c.in-7.is)
-
-pub returns-in_default-2 : goal.returns-in_default-2
-unfolding opcode
-returns-in_default-2 c =
-    rw (
-      c.registers_at.ensures _ (λ n b v l. refl),
-      c.in-Is.is,
-      eqb-false _ _ c.in_default-2.in_default-2-own.rest.0.0.1,
-      eqb-false _ _ c.in_default-2.in_default-2-own.rest.0.1,
-      eqb-false _ _ c.in_default-2.in_default-2-own.rest.1,
-    )
+returns c =
+    rw (c.registers_at.ensures _ (λ n b v l. refl), c.in_ok-reg.was)
+    (group2 (λ o. got (op (shift_cl o c.args.x.width c.in_ok-reg.d))) c.in_ok-reg.reg (drop c.in_ok-reg.next c.args.code.now) c.in_ok-group2_of.ensures)

@@ -1,43 +1,27 @@
+use lib.ListN.{drop}
 use mathlib.Core.Path.{refl}
-use Rattle.base.proofs.Tests.{eqb-false}
-use Rattle.x86.specs.Decode.{opcode}
-use borrow.Author.Rules.{rules}
+use Rattle.base.proofs.Tests.{eqb-true, eqb-false}
+use Rattle.x86.specs.Instr.{op, unary}
+use Rattle.x86.specs.Decode.{opcode, got}
+use Rattle.x86_reader.proofs.ByExtension.{group3}
 use Rattle.x86_reader.proofs.groups.group3_at.Goals as goal
 
-pub returns-in_default : goal.returns-in_default
+pub returns-in_err-reg : goal.returns-in_err-reg
 unfolding opcode
-returns-in_default c = rw (c.registers_at.ensures _ (λ n b v l. refl), c.in_default.is)
+returns-in_err-reg c = rw (c.registers_at.ensures _ (λ n b v l. refl), c.in_err-reg.was, c.from_residual.ensures)
 
-pub returns-in-0 : goal.returns-in-0
+pub returns-then-reg-eq0 : goal.returns-then-reg-eq0
 unfolding opcode
-returns-in-0 c =
-    rw (
-      c.registers_at.ensures _ (λ n b v l. refl),
-      c.in-Is.is,
-      c.in-0.is,
-      c.alu_imm_at.ensures,
-    )
+returns-then-reg-eq0 c = rw (c.registers_at.ensures _ (λ n b v l. refl), c.in_ok-reg.was, eqb-true _ _ c.if-reg-eq0.true) c.alu_imm_at.ensures
 
-pub returns-in-3 : goal.returns-in-3
+pub returns-in_err-group3_of : goal.returns-in_err-group3_of
 unfolding opcode
-returns-in-3 c = rw (c.registers_at.ensures _ (λ n b v l. refl), c.in-Is.is, c.in-3.is)
+returns-in_err-group3_of c =
+    rw (c.registers_at.ensures _ (λ n b v l. refl), c.in_ok-reg.was, eqb-false _ _ c.if-reg-eq0.false, c.from_residual-in_err-group3_of.ensures)
+    (group3 (λ o. got (op (unary o c.args.x.width c.in_ok-reg.d))) c.in_ok-reg.reg (drop c.in_ok-reg.next c.args.code.now) c.in_err-group3_of.ensures)
 
-pub returns-in-4 : goal.returns-in-4
+pub returns : goal.returns
 unfolding opcode
-returns-in-4 c = rw (c.registers_at.ensures _ (λ n b v l. refl), c.in-Is.is, c.in-4.is)
-
-pub returns-in-6 : goal.returns-in-6
-unfolding opcode
-returns-in-6 c = rw (c.registers_at.ensures _ (λ n b v l. refl), c.in-Is.is, c.in-6.is)
-
-pub returns-in_default-2 : goal.returns-in_default-2
-unfolding opcode
-returns-in_default-2 c =
-    rw (
-      c.registers_at.ensures _ (λ n b v l. refl),
-      c.in-Is.is,
-      eqb-false _ _ c.in_default-2.in_default-2-own.rest.0.0.0.1,
-      eqb-false _ _ c.in_default-2.in_default-2-own.rest.0.0.1,
-      eqb-false _ _ c.in_default-2.in_default-2-own.rest.0.1,
-      eqb-false _ _ c.in_default-2.in_default-2-own.rest.1,
-    )
+returns c =
+    rw (c.registers_at.ensures _ (λ n b v l. refl), c.in_ok-reg.was, eqb-false _ _ c.if-reg-eq0.false)
+    (group3 (λ o. got (op (unary o c.args.x.width c.in_ok-reg.d))) c.in_ok-reg.reg (drop c.in_ok-reg.next c.args.code.now) c.in_ok-group3_of.ensures)

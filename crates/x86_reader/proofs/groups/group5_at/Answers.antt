@@ -1,17 +1,16 @@
 use mathlib.Core.Path.{refl}
 use Rattle.base.proofs.Tests.{eqb-true, eqb-false}
 use Rattle.x86.specs.Decode.{opcode}
-use borrow.Author.Rules.{rules}
 use Rattle.x86_reader.proofs.groups.group5_at.Goals as goal
 
-pub returns-in_default : goal.returns-in_default
+pub returns-in_err-reg : goal.returns-in_err-reg
 unfolding opcode
-returns-in_default c = rw (c.registers_at.ensures _ (λ n b v l. refl), c.in_default.is)
+returns-in_err-reg c = rw (c.registers_at.ensures _ (λ n b v l. refl), c.in_err-reg.was, c.from_residual.ensures)
 
 pub returns-then-reg-eq2 : goal.returns-then-reg-eq2
 unfolding opcode
-returns-then-reg-eq2 c = rw (c.registers_at.ensures _ (λ n b v l. refl), c.in-Is.is, eqb-true _ _ c.if-reg-eq2.true)
+returns-then-reg-eq2 c = rw (c.registers_at.ensures _ (λ n b v l. refl), c.in_ok-reg.was, eqb-true _ _ c.if-reg-eq2.true)
 
 pub returns : goal.returns
 unfolding opcode
-returns c = rw (c.registers_at.ensures _ (λ n b v l. refl), c.in-Is.is, eqb-false _ _ c.if-reg-eq2.false)
+returns c = rw (c.registers_at.ensures _ (λ n b v l. refl), c.in_ok-reg.was, eqb-false _ _ c.if-reg-eq2.false)

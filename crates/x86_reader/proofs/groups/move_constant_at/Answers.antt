@@ -1,29 +1,27 @@
 use Rattle.x86_forms.proofs.ByRex.{store_word}
-use Rattle.base.proofs.Tests.{eqb-false}
+use Rattle.base.proofs.Tests.{eqb-true, eqb-false}
 use Rattle.x86.specs.Decode.{opcode}
-use borrow.Author.Rules.{rules}
 use Rattle.x86_reader.proofs.groups.move_constant_at.Goals as goal
 
-pub returns-in-Bad : goal.returns-in-Bad
+pub returns-in_err-reg : goal.returns-in_err-reg
 unfolding opcode
-returns-in-Bad c = rw (c.modrm_at.ensures, c.in-Bad.is)
+returns-in_err-reg c = rw (c.modrm_at.ensures, c.in_err-reg.was, c.from_residual.ensures)
 
-pub returns-in-0 : goal.returns-in-0
+pub returns-then-reg-ne0 : goal.returns-then-reg-ne0
 unfolding opcode
-returns-in-0 c = rw (c.modrm_at.ensures, c.in-Register.is, c.in-0.is, c.alu_imm_at.ensures)
+returns-then-reg-ne0 c = rw (c.modrm_at.ensures, c.in_ok-reg.was, eqb-false _ _ c.if-reg-ne0.true)
 
-pub returns-in_default : goal.returns-in_default
+pub returns-in-Register : goal.returns-in-Register
 unfolding opcode
-returns-in_default c = rw (c.modrm_at.ensures, c.in-Register.is, eqb-false _ _ c.in_default.in_default-own.rest.1)
+returns-in-Register c =
+    let zero = c.if-reg-ne0.false in
+    rw (c.modrm_at.ensures, c.in_ok-reg.was, eqb-true _ _ zero, c.in-Register.is) c.alu_imm_at.ensures
 
-pub returns-in-0-2 : goal.returns-in-0-2
-returns-in-0-2 c =
-    let word = c.size_of-z.ensures in
+pub returns-in-Memory : goal.returns-in-Memory
+returns-in-Memory c =
+    let zero = c.if-reg-ne0.false in
+    let word = c.size_of.ensures in
     store_word _ _ _ _ _ _ _ _ _ _ _ word
-    (λ k. rw (c.modrm_at.ensures, c.in-Memory.is))
-    c.in-0-2.is
+    (λ k. rw (c.modrm_at.ensures, c.in_ok-reg.was, c.in-Memory.is))
+    zero
     c.store_imm_at.ensures
-
-pub returns-in_default-2 : goal.returns-in_default-2
-unfolding opcode
-returns-in_default-2 c = rw (c.modrm_at.ensures, c.in-Memory.is, eqb-false _ _ c.in_default-2.in_default-2-own.rest.1)

@@ -1,7 +1,0 @@
-use Rattle.std.proofs.Common.{refl, rules}
-use Rattle.ebpf.specs.Insn.{insn_at}
-use Rattle.replay_step.proofs.fetch.registers_of.Goals as goal
-
-pub returns : goal.returns
-unfolding insn_at
-returns c = (rw c.wide-both.ensures.0 refl, rw c.wide-both.ensures.0 refl)
