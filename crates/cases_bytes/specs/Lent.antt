@@ -1,6 +1,8 @@
 -- What the contracts say of the parameters by their names (base/specs/Lent.antt): the records and definitions of Stored.antt, Answers.antt
 -- and Cases.antt, each under its own name.
-use Rattle.std.specs.Prelude.{◌≡◌, Bool, List, ℕ, ◌+◌, ◌*◌, ◌≤◌, length, Result}
+use Rattle.std.specs.Prelude.{◌≡◌, Bool, List, ℕ, ◌+◌, ◌*◌, ◌≤◌, length, Result, Ok, Err}
+use Rattle.std.specs.declared.ops.ControlFlow.{ControlFlow}
+use Rattle.std.specs.declared.ops.ControlFlow.TheVariants.{Break, Continue}
 use Rattle.base.specs.Lent.{Slice, Lent, MutLent, seen}
 use Rattle.ebpf.specs.Insn.{le4}
 use Rattle.cases_problems.specs.declared.Problem.{Problem}
@@ -90,3 +92,15 @@ Filled s f n = s.exit.now ≡ C.filled f n (held (seen s))
 -- a case's helpers are in their slices, and its program is in the body
 abbrev pub Inside : (body ids addresses : Slice) → Case → Type 0
 Inside body ids addresses case = (case.ids ≤ length ids.now) × ((case.addresses ≤ length addresses.now) × (case.program ≤ length body.now))
+
+-- behind a case the run goes on; one that is malformed ends it
+abbrev pub turn_behind : Result Case Problem → ControlFlow (Unit {0}) (Unit {0})
+turn_behind (Ok case) = Continue tt
+turn_behind (Err wrong) = Break tt
+
+-- the case that a body holds, where so many helpers are lent as a case may have
+abbrev pub lent_helpers : ℕ
+lent_helpers = 512
+
+abbrev pub case_in : (body : Lent) → Result Case Problem
+case_in body = C.case_of (held body) lent_helpers lent_helpers

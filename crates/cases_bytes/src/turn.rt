@@ -1,5 +1,6 @@
 // A loop over the records of a stream, turn by turn, and what the programs that read cases do with each.
-ghost use Rattle.std.specs.Prelude.{◌≤◌, length};
+ghost use Rattle.std.specs.Prelude.{◌≡◌};
+ghost use Rattle.cases_bytes.specs.Lent.{turn_behind, case_in};
 
 use crate::limits::{CASE, HELPERS};
 use crate::parts::{Case, take_apart};
@@ -61,6 +62,7 @@ pub fn show_case<F: FnOnce(Case, &[u8], &[u32], &[u64])>(
     show: F,
 ) -> ControlFlow<()>
     requires { F.IsAlwaysCallable show }
+    ensures { result ≡ turn_behind (case_in body) }
 {
     let mut ids = [0u32; HELPERS];
     let mut addresses = [0u64; HELPERS];

@@ -1,5 +1,6 @@
 -- What is answered for a part of a capture and for a capture, by the verdict on the filter and by what is left behind the records.
-use Rattle.std.proofs.Common.{◌≡◌, ℕ, ◌-◌, ◌≤◌, Bool, true, false, ltb, Option, Some, None, Result, Ok, Err, List, [], ◌∷◌, length, take, drop, sym, refl, ap, ◌∙◌, arith, length-drop, take_all, ltb-false}
+use Rattle.std.proofs.Common.{◌≡◌, ℕ, ◌-◌, ◌≤◌, Bool, true, false, ltb, Option, Some, None, Result, Ok, Err, List, [], ◌∷◌, length, take, drop}
+use Rattle.std.proofs.Common.{sym, refl, ap, ◌∙◌, arith, length-drop, take_all, ltb-false}
 use Rattle.base.specs.Pick.{pick}
 use Rattle.pcap.specs.declared.Order.TheVariants.{Little, Big}
 use Rattle.jit.specs.Limits.{most_slots}

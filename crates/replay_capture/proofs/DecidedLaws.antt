@@ -1,5 +1,6 @@
 -- Whether a filter is run: what the translator's verdict says of it, and what the slots say behind that.
-use Rattle.std.proofs.Common.{◌≡◌, ℕ, ◌+◌, ◌*◌, ◌<◌, ◌≤◌, Bool, true, false, ◌||◌, ltb, leb, Result, Ok, Err, List, length, sym, refl, ap, ◌∙◌, arith, ltb-false, leb-false}
+use Rattle.std.proofs.Common.{◌≡◌, ℕ, ◌+◌, ◌*◌, ◌<◌, ◌≤◌, Bool, true, false, ◌||◌, ltb, leb, Result, Ok, Err, List, length}
+use Rattle.std.proofs.Common.{sym, refl, ap, ◌∙◌, arith, ltb-false, leb-false}
 use Rattle.base.specs.Pick.{pick}
 use Rattle.jit.specs.declared.Refusal.{Refusal}
 use Rattle.jit.specs.Limits.{shortest_page, longest_page, longest_program}

@@ -1,5 +1,6 @@
 -- What is answered for one packet, by the verdict on the filter.
-use Rattle.std.proofs.Common.{◌≡◌, ℕ, ◌≤◌, Bool, true, false, not, ◌||◌, ltb, leb, Result, Ok, Err, List, length, sym, refl, ap, ◌∙◌, arith, ltb-false, le-ltb, leb-false, leb-true}
+use Rattle.std.proofs.Common.{◌≡◌, ℕ, ◌≤◌, Bool, true, false, not, ◌||◌, ltb, leb, Result, Ok, Err, List, length}
+use Rattle.std.proofs.Common.{sym, refl, ap, ◌∙◌, arith, ltb-false, le-ltb, leb-false, leb-true}
 use Rattle.jit.specs.Translation.{Inputs}
 use Rattle.pcap.specs.Capture.{longest_packet}
 use Rattle.replay.specs.declared.Refusal.{Refusal}

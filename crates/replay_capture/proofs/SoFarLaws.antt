@@ -1,5 +1,6 @@
 -- A window so far: what holds between two records, how one more keeps it, and that it comes to the contract where there is none.
-use Rattle.std.proofs.Common.{◌≡◌, ℕ, ◌+◌, ◌-◌, ◌^◌, ◌<◌, ◌≤◌, Bool, true, false, leb, List, [], ◌∷◌, ◌++◌, length, take, drop, sym, refl, ap, ◌∙◌, append-nil, arith, length-append, length-drop, length-take, length-take-le, take_all, leb-true}
+use Rattle.std.proofs.Common.{◌≡◌, ℕ, ◌+◌, ◌-◌, ◌^◌, ◌<◌, ◌≤◌, Bool, true, false, leb, List, [], ◌∷◌, ◌++◌, length, take, drop}
+use Rattle.std.proofs.Common.{sym, refl, ap, ◌∙◌, append-nil, arith, length-append, length-drop, length-take, length-take-le, take_all, leb-true}
 use Rattle.base.specs.Lists.{over}
 use Rattle.base.specs.Pick.{pick}
 use Rattle.pcap.specs.declared.Order.{Order}

@@ -1,5 +1,6 @@
 -- The laws of an address and of the place where an access lies.
-use Rattle.std.proofs.Common.{◌≡◌, ℕ, ◌+◌, ◌-◌, ◌%◌, ◌^◌, ◌<◌, ◌≤◌, Bool, true, false, ◌&&◌, Option, Some, None, ltb, leb, refl, arith, ltb-false, ltb-true, le-leb, leb-false, leb-true}
+use Rattle.std.proofs.Common.{◌≡◌, ℕ, ◌+◌, ◌-◌, ◌%◌, ◌^◌, ◌<◌, ◌≤◌, Bool, true, false, ◌&&◌, Option, Some, None, ltb, leb}
+use Rattle.std.proofs.Common.{refl, arith, ltb-false, ltb-true, le-leb, leb-false, leb-true}
 use Rattle.base.specs.Pick.{pick}
 use Rattle.base.specs.declared.Width.TheVariants.{W64}
 use Rattle.ebpf_meaning.specs.Values.{immediate}

@@ -1,5 +1,6 @@
 -- Byte swaps: a remainder by a power of two, and bytes turned round.
-use Rattle.std.proofs.Common.{◌≡◌, ℕ, ◌+◌, ◌-◌, ◌*◌, ◌/◌, ◌%◌, ◌^◌, ◌<◌, ◌≤◌, true, eqb, sym, ◌∙◌, lt_of_lt_of_le, mod-eq_of_lt, arith, eqb→eq, pow_mono, shl_exact}
+use Rattle.std.proofs.Common.{◌≡◌, ℕ, ◌+◌, ◌-◌, ◌*◌, ◌/◌, ◌%◌, ◌^◌, ◌<◌, ◌≤◌, true, eqb}
+use Rattle.std.proofs.Common.{sym, ◌∙◌, lt_of_lt_of_le, mod-eq_of_lt, arith, eqb→eq, pow_mono, shl_exact}
 use Rattle.base.proofs.Tests.{true-T, or_elim}
 use Rattle.ebpf_meaning.specs.Values.{reversed, be_value}
 use Rattle.jit.specs.Translation.{swap_bits}
