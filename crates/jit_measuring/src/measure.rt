@@ -57,6 +57,7 @@ fn plain(size: usize) -> Look
 }
 
 // A slot that lists a jump; a recorded target is a slot, or n, or the exit.
+#[tactic(auto, unfolding(jit::specs::Translation::good_target))]
 fn jumps(size: usize, n: usize, target: u32) -> Look
     ensures { result ≡ jumping size n target }
 {

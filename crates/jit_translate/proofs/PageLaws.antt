@@ -1,5 +1,5 @@
 -- What `write_page` may count on at each of its calls, and what it comes to, where `Decided` is good.
-use mathlib.Core.Path.{◌≡◌, refl, ap}
+use mathlib.Core.Path.{◌≡◌, refl}
 use mathlib.Core.List.{List}
 use Prim.Native.Nat.{ℕ, ◌+◌, ◌≤◌, ◌<◌, ◌^◌}
 use native.Mathlib.Omega.{arith}
@@ -13,7 +13,6 @@ use Rattle.jit.specs.Translation.{Inputs, slots_of, Walk, walk_of, translation_o
 use Rattle.jit.specs.Passes.{walk_from}
 use Rattle.jit.proofs.Counted.{all_slots}
 use Rattle.jit_walk.specs.Acceptable.{Acceptable}
-use Rattle.jit.proofs.FrameLaws.{prologue-targets}
 use Rattle.jit_recording.specs.Emits.{Tables, Emits, HasEntry, Room}
 use Rattle.jit_recording.proofs.EmitsLaws.{put-length}
 use Rattle.jit_writing.specs.Writes.{Fits, Fitting, Writes}
@@ -63,9 +62,9 @@ module _ {x : Inputs} (good : Decided x (Ok tt)) where
         × ((x.page ≤ longest_page) × ((start ≤ x.page) × (length x.filter.ids ≡ length x.filter.addresses)))
     slots-bounded = (is.program, (is.longest, (omega (arith, starts, is.walk.room), is.helpers)))
 
-    -- the tables are as long as before, and list one jump
+    -- the tables are as long as before
     pub slots-fitting : {l : List ℕ} → x.page ≡ length c₁ → x.locations ≡ length l → Lengths x t
-        → Fitting (walk_from x.filter x.page start) x.page start c₁ l t₁ j (slots_of x.filter.program)
+        → Fitting (walk_from x.filter x.page start) x.page start c₁ l t₁ (slots_of x.filter.program)
     slots-fitting p hl h =
         let same : Lengths x t₁ =
         record {
@@ -80,7 +79,6 @@ module _ {x : Inputs} (good : Decided x (Ok tt)) where
           page_is = p;
           locations = omega (arith, is.tables.first, hl);
           entry = entry_at (slots_of x.filter.program) (omega arith) same;
-          one = omega (arith, e.targets.next, ap length (prologue-targets x.flags));
         })
 
     pub begun : {c₂ l l₁ : List ℕ} {t₂ : Tables} {end jumps : ℕ} → Writes (walk_from x.filter x.page start) start c₁ c₂ l l₁ t₁ t₂ end jumps

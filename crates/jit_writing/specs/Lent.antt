@@ -32,7 +32,7 @@ abbrev pub Fitting : Filter → (page : ℕ) → (start : Position) → (code lo
 Fitting filter page start code locations jumps =
     W.Fitting
     (walked filter page start) page start.offset
-    code.now locations.now (tables jumps.now) jumps.now.count (slots_of filter.program)
+    code.now locations.now (tables jumps.now) (slots_of filter.program)
 
 -- .. and these are written, up to r
 abbrev pub Writes : Filter → (page : ℕ) → (start : Position) → (code locations : MutLent) → (jumps : TablesLent) → (r : Position) → Type 0

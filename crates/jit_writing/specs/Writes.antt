@@ -31,14 +31,13 @@ Holds (done bs) start c c' l l' t t' end jumps = Left bs start c c' l l' t t' en
 pub record Writes (w : Walk) (start : ℕ) (c c' l l' : List ℕ) (t t' : Tables) (end jumps : ℕ) : Type 0 where
   pub holds : Holds w start c c' l l' t t' end jumps
 
--- what it asks: a walk that is accepted, room for it, and tables that list the prologue's jump
+-- what it asks: a walk that is accepted, and room for it
 abbrev pub Fits : Walk → (page start : ℕ) → Type 0
 Fits (refused r) page start = ⊥
 Fits (done bs) page start = start + size (flat bs) + epilogue_size ≤ page
 
-pub record Fitting (w : Walk) (page start : ℕ) (c l : List ℕ) (t : Tables) (jumps n : ℕ) : Type 0 where
+pub record Fitting (w : Walk) (page start : ℕ) (c l : List ℕ) (t : Tables) (n : ℕ) : Type 0 where
   pub fits : Fits w page start
   pub page_is : page ≡ length c
   pub locations : n < length l
   pub entry : HasEntry t n
-  pub one : jumps ≡ 1

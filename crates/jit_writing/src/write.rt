@@ -28,7 +28,8 @@ fn put_slot(locations: &mut [u32], slot: Slot, at: Position, number: u8) -> Slot
     Slot { number: first + 1 }
 }
 
-// The slots of a program that is accepted, the first one's code at `start`. The answer is where they end, and how many jumps are listed.
+// The slots of a program that is accepted, the first one's code at `start`, their jumps behind the prologue's, which is the tables' entry 0. The
+// answer is where they end.
 pub fn write_slots(
     opcodes: &Opcodes,
     prog: &[u8],
@@ -45,6 +46,7 @@ pub fn write_slots(
     requires fitting { Fitting (filter_in prog mode ids addresses) page start code locations jumps }
     ensures { Writes (filter_of prog mode ids addresses) page start code locations jumps result }
 {
+    jumps.count = 1;
     let mut next = Slot { number: 0 };
     let mut at = start;
     // A step is as wide as its slot, one or two (`put_slot` says which), so no range and no `chunks` counts them.

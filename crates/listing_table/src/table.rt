@@ -49,7 +49,7 @@ fn entry(table: &[u32], k: usize) -> u32 {
 
 fn put_bytes(line: &mut [u8], at: usize, code: &[u8], from: usize, to: usize) -> usize {
     let mut next = at;
-    for byte in code.iter().take(to).skip(from) {
+    for byte in code.get(from..to.min(code.len())).unwrap_or(&[]) {
         next = put_hex_byte(line, next, *byte);
         next = put_byte(line, next, b' ');
     }

@@ -1,12 +1,12 @@
 // What stands at a place of an area: its bytes, lowest first, put together. Compiled, each size is one load.
-ghost use Rattle.std.specs.Prelude.{◌≡◌, ◌+◌, ◌≤◌, length};
+ghost use Rattle.std.specs.Prelude.{◌≡◌, ◌+◌, ◌^◌, ◌<◌, ◌≤◌, length};
 ghost use Rattle.replay.specs.Memory.{loaded, size_bytes};
 
 use base::Size;
 
 pub fn load(z: Size, area: &[u8], at: usize) -> u64
     requires { at + size_bytes z ≤ length area.now }
-    ensures { result ≡ loaded z area.now at }
+    ensures { (result ≡ loaded z area.now at) × (result < 256 ^ size_bytes z) }
 {
     match z {
         Size::S8 => u64::from(area[at]),

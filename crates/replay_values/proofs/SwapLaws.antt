@@ -33,3 +33,7 @@ at_width C n e x y z =
 pub turned : (n a : ℕ) → swap_bits n ≡ true → reversed 8 a / 2 ^ (64 - n) ≡ be_value n a
 unfolding reversed be_value
 turned n a e = at_width (λ (m : ℕ). reversed 8 a / 2 ^ (64 - m) ≡ be_value m a) n e (omega arith) (omega arith) (omega arith)
+
+pub be-below : (n a : ℕ) → swap_bits n ≡ true → be_value n a < 2 ^ n
+unfolding reversed be_value
+be-below n a e = at_width (λ (m : ℕ). be_value m a < 2 ^ m) n e (omega arith) (omega arith) (omega arith)

@@ -1,5 +1,5 @@
 // Byte swaps: RFC 9669, section 4.2, on a host whose byte order is little-endian.
-ghost use Rattle.std.specs.Prelude.{◌≡◌, true};
+ghost use Rattle.std.specs.Prelude.{◌≡◌, ◌^◌, ◌<◌, true};
 ghost use Rattle.ebpf_meaning.specs.Values.{le_value, be_value};
 ghost use Rattle.jit.specs.Translation.{swap_bits};
 
@@ -16,7 +16,7 @@ pub fn le(width: u32, a: u64) -> u64
 // The lowest bytes turned round are the highest of all eight turned round.
 pub fn be(width: u32, a: u64) -> u64
     requires { swap_bits width ≡ true }
-    ensures { result ≡ be_value width a }
+    ensures { (result ≡ be_value width a) × (result < 2 ^ width) }
 {
     a.swap_bytes() >> (64 - width)
 }

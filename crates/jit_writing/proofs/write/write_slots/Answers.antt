@@ -9,7 +9,7 @@ use Rattle.jit_writing.proofs.Writing.{Writing, writing_begins, next-slot, next-
 use Rattle.jit_writing.proofs.write.write_slots.Goals as goal
 
 pub loop-next-init : goal.loop-next-init
-loop-next-init c = (rw c.requires.fitting.one (writing_begins _ _ _ _ _ _ (search rules)), search rules)
+loop-next-init c = (writing_begins _ _ _ _ _ _ (search rules), search rules)
 
 pub emit_slot-end-requires-clause-slot_read : goal.emit_slot-end-requires-clause-slot_read
 emit_slot-end-requires-clause-slot_read c =
@@ -49,4 +49,9 @@ loop-next-preserved c =
     )
 
 pub returns : goal.returns
-returns c = let inv = c.loop-next.invariant in (writing-ends inv.0 c.requires.fitting.fits c.loop-next-test.false, inv.1)
+returns c =
+    let inv = c.loop-next.invariant in
+    let same = inv.1 in (
+      writing-ends inv.0 c.requires.fitting.fits c.loop-next-test.false,
+      record { fields = same.fields; targets = same.targets; kinds = same.kinds; makers = same.makers },
+    )
