@@ -184,7 +184,8 @@ pub fn measure(
     let mut bad = None;
     // No `for`: the slot itself says whether the next is one or two further on.
     while slot.number < n {
-        let seen = measure_slot(opcodes, prog, mode, ids, addresses, n, slot)?;
+        let looked = measure_slot(opcodes, prog, mode, ids, addresses, n, slot);
+        let seen = looked?;
         let end = at.offset + seen.size;
         if page < end {
             return Err(Refusal::NoRoom(slot));

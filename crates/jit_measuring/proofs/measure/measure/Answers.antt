@@ -11,34 +11,34 @@ loop-slot-init c = measuring-begins _ _ _ _ c.requires.1.1.0
 
 pub returns-in_err-seen : goal.returns-in_err-seen
 returns-in_err-seen c =
-    let seen = c.measure_slot in
+    let seen = c.measure_slot-looked in
     let stop = finds-stop _ _ _ seen.ensures.0 c.in_err-seen.was in
     let p = err_from_is_err_and c.from_residual.result c.from_residual.ensures.1 in
     rw (p.1, p.2) (measuring-stops c.loop-slot.invariant _ (omega (arith, c.loop-slot-test.true)) stop)
 
 pub returns-then-page-end : goal.returns-then-page-end
 returns-then-page-end c =
-    let went = finds-go _ _ _ c.measure_slot.ensures.0 c.in_ok-seen.was in
+    let went = finds-go _ _ _ c.measure_slot-looked.ensures.0 c.in_ok-seen.was in
     measuring-full c.loop-slot.invariant c.in_ok-seen.seen went (omega (arith, c.loop-slot-test.true)) c.if-page-end.true
 
 pub loop-slot-preserved-in-Following : goal.loop-slot-preserved-in-Following
 loop-slot-preserved-in-Following c =
     let loop = c.loop-slot in
-    let went = finds-go _ _ _ c.measure_slot.ensures.0 c.in_ok-seen.was in
+    let went = finds-go _ _ _ c.measure_slot-looked.ensures.0 c.in_ok-seen.was in
     let on = measuring-on loop.invariant c.in_ok-seen.seen went (omega (arith, c.loop-slot-test.true)) c.if-page-end.false in
     as_before loop.invariant (rw c.in-Following.is at on)
 
 pub loop-slot-preserved-in-Wide : goal.loop-slot-preserved-in-Wide
 loop-slot-preserved-in-Wide c =
     let loop = c.loop-slot in
-    let went = finds-go _ _ _ c.measure_slot.ensures.0 c.in_ok-seen.was in
+    let went = finds-go _ _ _ c.measure_slot-looked.ensures.0 c.in_ok-seen.was in
     let on = measuring-on loop.invariant c.in_ok-seen.seen went (omega (arith, c.loop-slot-test.true)) c.if-page-end.false in
     as_before loop.invariant (rw c.in-Wide.is at on)
 
 pub loop-slot-preserved : goal.loop-slot-preserved
 loop-slot-preserved c =
     let loop = c.loop-slot in
-    let went = finds-go _ _ _ c.measure_slot.ensures.0 c.in_ok-seen.was in
+    let went = finds-go _ _ _ c.measure_slot-looked.ensures.0 c.in_ok-seen.was in
     let on = measuring-on loop.invariant c.in_ok-seen.seen went (omega (arith, c.loop-slot-test.true)) c.if-page-end.false in
     rw (c.or-bad.ensures, or_is) (rw c.in-Lost.is at on)
 
